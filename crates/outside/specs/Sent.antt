@@ -1,0 +1,20 @@
+-- What of a list of things to come, as the bytes of a text or a list of calls, has come so far.
+use Rattle.std.specs.Prelude.{◌≡◌, ◌<◌, List, ◌++◌, length, Option}
+use Rattle.outside.specs.Told.{Grows}
+
+-- all but `rest` came: what is told grew by a front of `all`, and `rest` is still to come
+pub record CameSoFar {A : Type 0} (before : Option (List A)) (all rest : List A) (after : Option (List A)) : Type 0 where
+  pub front : List A
+  pub grows : Grows before front after
+  pub whole : front ++ rest ≡ all
+
+-- a front of `all` came, perhaps the whole
+pub record CameInFront {A : Type 0} (before : Option (List A)) (all : List A) (after : Option (List A)) : Type 0 where
+  pub rest : List A
+  pub so_far : CameSoFar before all rest after
+
+-- a proper front of `all` came: at least one element did not
+pub record CameInPart {A : Type 0} (before : Option (List A)) (all : List A) (after : Option (List A)) : Type 0 where
+  pub rest : List A
+  pub left : 0 < length rest
+  pub so_far : CameSoFar before all rest after

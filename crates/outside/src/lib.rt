@@ -1,0 +1,5 @@
+//! What is said of every object of the outside: a file, a sink, a register file.
+//!
+//! Definitions alone, with their lemmas in proofs/: when a count of faults rose, what is told after a
+//! call and stays, grows or moves, and what of a text was sent so far.
+#![tactic(auto)]
