@@ -3,7 +3,7 @@ use Rattle.std.proofs.Common.{◌≡◌, ◌<◌, List, ◌++◌, [], Option, le
 use Rattle.std.proofs.lemmas.List.{append-nil, length-append}
 use Rattle.outside.specs.Told.{Stays, Grows}
 use Rattle.outside.specs.Sent.{CameSoFar, CameInFront, CameInPart}
-use Rattle.outside.proofs.ToldLemmas.{stays_same, grows_none, grows_then, grows_stays}
+use Rattle.outside.proofs.ToldLemmas.{stays_same, grows_none, grows_then, grows_stays, stays_grows}
 
 -- nothing yet
 pub none_came : {A : Type 0} (a b : Option (List A)) (all : List A) → Stays a b → CameSoFar a all all b
@@ -13,9 +13,11 @@ none_came a b all s = record { front = []; grows = grows_none a b s; whole = ref
 pub more_came : {A : Type 0} (a b c : Option (List A)) (all piece rest : List A)
     → CameSoFar a all (piece ++ rest) b → Grows b piece c → CameSoFar a all rest c
 more_came a b c all piece rest far grew =
-    record { front = far.front ++ piece;
-             grows = grows_then a b c far.front piece far.grows grew;
-             whole = append_assoc far.front piece rest ∙ far.whole }
+    record {
+      front = far.front ++ piece;
+      grows = grows_then a b c far.front piece far.grows grew;
+      whole = append_assoc far.front piece rest ∙ far.whole;
+    }
 
 -- nothing more
 pub same_came : {A : Type 0} (a b c : Option (List A)) (all rest : List A)
@@ -36,13 +38,59 @@ joined f g r s piece all e w =
 pub part_came : {A : Type 0} (a b c : Option (List A)) (all piece rest : List A)
     → CameSoFar a all (piece ++ rest) b → CameInPart b piece c → CameInPart a all c
 part_came a b c all piece rest far part = record {
-    rest = part.rest ++ rest;
-    left = omega (arith, length-append part.rest rest, part.left);
-    so_far = record {
-      front = far.front ++ part.so_far.front;
-      grows = grows_then a b c far.front part.so_far.front far.grows part.so_far.grows;
-      whole = joined far.front part.so_far.front part.rest rest piece all part.so_far.whole far.whole } }
+  rest = part.rest ++ rest;
+  left = omega (arith, length-append part.rest rest, part.left);
+  so_far = record {
+    front = far.front ++ part.so_far.front;
+    grows = grows_then a b c far.front part.so_far.front far.grows part.so_far.grows;
+    whole = joined far.front part.so_far.front part.rest rest piece all part.so_far.whole far.whole;
+  };
+}
 
 -- what came in part came in front
 pub front_of_part : {A : Type 0} (a b : Option (List A)) (all : List A) → CameInPart a all b → CameInFront a all b
 front_of_part a b all part = record { rest = part.rest; so_far = part.so_far }
+
+-- a call that sent nothing of what it had to send
+pub none_in_part : {A : Type 0} (a b : Option (List A)) (all : List A) → 0 < length all → Stays a b → CameInPart a all b
+none_in_part a b all some s = record { rest = all; left = some; so_far = none_came a b all s }
+
+-- a call that sent nothing of what it had to send, which may be nothing
+pub none_in_front : {A : Type 0} (a b : Option (List A)) (all : List A) → Stays a b → CameInFront a all b
+none_in_front a b all s = record { rest = all; so_far = none_came a b all s }
+
+-- a front of the next piece came, and more was to come behind it
+pub front_came : {A : Type 0} (a b c : Option (List A)) (all piece rest : List A)
+    → CameSoFar a all (piece ++ rest) b → CameInFront b piece c → 0 < length rest → CameInPart a all c
+front_came a b c all piece rest far front some = record {
+  rest = front.rest ++ rest;
+  left = omega (arith, length-append front.rest rest);
+  so_far = record {
+    front = far.front ++ front.so_far.front;
+    grows = grows_then a b c far.front front.so_far.front far.grows front.so_far.grows;
+    whole = joined far.front front.so_far.front front.rest rest piece all front.so_far.whole far.whole;
+  };
+}
+
+-- a front of a text is one of every longer text
+pub part_of_more : {A : Type 0} (a b : Option (List A)) (piece rest : List A) → CameInPart a piece b → CameInPart a (piece ++ rest) b
+part_of_more a b piece rest part = part_came a a b (piece ++ rest) piece rest (none_came a a (piece ++ rest) (stays_same a)) part
+
+-- a first piece came whole, and what follows it in part
+pub part_behind : {A : Type 0} (a b c : Option (List A)) (piece rest : List A) → Grows a piece b → CameInPart b rest c → CameInPart a (piece ++ rest) c
+part_behind a b c piece rest grew part = record {
+  rest = part.rest;
+  left = part.left;
+  so_far = record {
+    front = piece ++ part.so_far.front;
+    grows = grows_then a b c piece part.so_far.front grew part.so_far.grows;
+    whole = append_assoc piece part.so_far.front part.rest ∙ ap (λ t. piece ++ t) part.so_far.whole;
+  };
+}
+
+-- nothing came, and then a front
+pub front_after : {A : Type 0} (a b c : Option (List A)) (all : List A) → Stays a b → CameInFront b all c → CameInFront a all c
+front_after a b c all same front = record {
+  rest = front.rest;
+  so_far = record { front = front.so_far.front; grows = stays_grows a b c front.so_far.front same front.so_far.grows; whole = front.so_far.whole };
+}

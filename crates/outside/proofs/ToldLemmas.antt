@@ -1,5 +1,5 @@
 -- How what is told goes on through calls.
-use Rattle.std.proofs.Common.{◌≡◌, List, ◌++◌, [], Option, None, Some, refl, ◌∙◌, ap, sym, append_assoc, IfSome, subst}
+use Rattle.std.proofs.Common.{List, ◌++◌, [], Option, None, Some, refl, ◌∙◌, ap, sym, append_assoc, IfSome, subst}
 use Rattle.std.proofs.lemmas.List.{append-nil}
 use Rattle.outside.specs.Told.{Told, Stays, Grows}
 
