@@ -1,5 +1,5 @@
 -- What never changes of an object that holds files: which names are there, and the bytes of a name.
-use Rattle.std.specs.Prelude.{◌≡◌, ℕ, ◌&&◌, Bool, cond, List, Option, None, Some, is_none, Result, IsErr, MatchBool}
+use Rattle.std.specs.Prelude.{◌≡◌, ℕ, ◌&&◌, cond, List, Option, None, Some, is_none, Result, IsErr, MatchBool}
 use Rattle.std.specs.List.{list_any}
 use Rattle.std.specs.Str.{bytes_eq}
 use Rattle.outside.specs.Faults.{Rose}
@@ -10,6 +10,10 @@ use Rattle.fm_io.specs.Slots.{Slot}
 pub record Shelf : Type 0 where
   pub names : Option (List (List ℕ))
   pub text : List ℕ → Option (List ℕ)
+
+-- no names and no texts are told
+abbrev pub untold_shelf : Shelf
+untold_shelf = record { names = None; text = λ name. None }
 
 pub record ShelfStays (old new : Shelf) : Type 0 where
   pub names : Stays old.names new.names

@@ -1,7 +1,7 @@
 -- Files stand in three slots: 0 the profile, 1 the script, 2 the capture.
-use Rattle.std.specs.Prelude.{◌≡◌, ℕ, ◌==◌, ◌+◌, ◌≤◌, ◌&&◌, Bool, cond, true, List, take, drop, length, Option, None, Some, IfSome, is_none, Result, Ok, Err, is_ok, OnOk}
+use Rattle.std.specs.Prelude.{◌≡◌, ℕ, ◌==◌, ◌+◌, ◌≤◌, Bool, false, cond, List, take, drop, length, Option, None, IfSome, Result, Ok, Err, is_ok, OnOk}
 use Rattle.std.specs.Bool.{OnFalse}
-use Rattle.outside.specs.Told.{Told, Stays}
+use Rattle.outside.specs.Told.{Told}
 
 -- the bytes of a file, and how many of them were read
 pub record Tape : Type 0 where
@@ -17,6 +17,17 @@ pub record Slots : Type 0 where
   pub profile : Slot
   pub script : Slot
   pub capture : Slot
+
+-- no file is attached
+abbrev pub no_file : Slot
+no_file = record { attached = false; tape = None }
+
+abbrev pub no_files : Slots
+no_files = record { profile = no_file; script = no_file; capture = no_file }
+
+-- a slot of which only is told whether a file is attached
+abbrev pub untold : Bool → Slot
+untold attached = record { attached = attached; tape = None }
 
 abbrev pub slot_at : Slots → ℕ → Slot
 slot_at slots number = cond (number == 0) slots.profile (cond (number == 1) slots.script slots.capture)

@@ -3,7 +3,7 @@ ghost use Rattle.std.specs.Prelude.{◌≡◌, ℕ, ◌+◌, ◌-◌, ◌^◌, �
 ghost use Rattle.outside.specs.Faults.{Rose, HasCause};
 ghost use Rattle.outside.specs.Told.{Grows};
 ghost use Rattle.outside.specs.Sent.{CameInPart};
-ghost use Rattle.fm_io.specs.Slots.{slot_at, SlotMoves, OthersStay, Yields, MovesUpTo, IsAtEnd, last_failed};
+ghost use Rattle.fm_io.specs.Slots.{slot_at, SlotMoves, SlotStays, OthersStay, Yields, MovesUpTo, IsAtEnd, last_failed};
 ghost use Rattle.fm_io.specs.Names.{ShelfStays};
 ghost use Rattle.fm_io.specs.Loops.{last_read};
 
@@ -39,10 +39,9 @@ pub fn read_full<F: Files>(files: &mut F, slot: usize, buf: &mut [u8]) -> Result
     ensures last { F.last files.new ≡ last_failed slot (F.last files.old) result }
     ensures strays { F.strays files.new ≡ F.strays files.old }
     ensures shelf { ShelfStays (F.shelf files.old) (F.shelf files.new) }
-    ensures slot {
-        MatchResult result
-            (λ n. SlotMoves (Yields (take n buf.new)) (slot_at (F.slots files.old) slot) (slot_at (F.slots files.new) slot))
-            (λ _. SlotMoves (MovesUpTo (length buf.old - 1)) (slot_at (F.slots files.old) slot) (slot_at (F.slots files.new) slot)) }
+    ensures slot { MatchResult result
+        (λ n. SlotMoves (Yields (take n buf.new)) (slot_at (F.slots files.old) slot) (slot_at (F.slots files.new) slot))
+        (λ _. SlotMoves (MovesUpTo (length buf.old - 1)) (slot_at (F.slots files.old) slot) (slot_at (F.slots files.new) slot)) }
     ensures others { OthersStay slot (F.slots files.old) (F.slots files.new) }
     ensures count { IfOk result (λ n. n ≤ length buf.old) }
     ensures end { IfOk result (λ n. n < length buf.old → IfSome (slot_at (F.slots files.new) slot).tape IsAtEnd) }
@@ -68,7 +67,28 @@ fn read_more<F: Files>(
     slot: usize,
     bytes: &mut Vec<u8>,
     limit: usize,
-) -> Result<usize, ReadFail> {
+) -> Result<usize, ReadFail>
+    requires slot { slot < 3 }
+    requires attached { (slot_at (F.slots files.old) slot).attached ≡ true }
+    requires room { vec_len bytes.old ≤ limit }
+    ensures later { F.faults files.old ≤ F.faults files.new }
+    ensures failed { IsErrOf result ReadFail.Failed → Rose (F.faults files.old) (F.faults files.new) }
+    ensures last { F.last files.new ≡ last_read slot (F.last files.old) result }
+    ensures strays { F.strays files.new ≡ F.strays files.old }
+    ensures shelf { ShelfStays (F.shelf files.old) (F.shelf files.new) }
+    ensures slot { MatchResult result
+        (λ _. SlotMoves (Yields (drop (vec_len bytes.old) bytes.new.items))
+        (slot_at (F.slots files.old) slot) (slot_at (F.slots files.new) slot))
+        (λ _. SlotMoves (MovesUpTo (limit + 1 - vec_len bytes.old))
+        (slot_at (F.slots files.old) slot) (slot_at (F.slots files.new) slot)) }
+    ensures stopped { IsErrOf result ReadFail.Failed →
+        SlotStays (slot_at (F.slots files.old) slot) (slot_at (F.slots files.new) slot) }
+    ensures others { OthersStay slot (F.slots files.old) (F.slots files.new) }
+    ensures front { OnOk result (take (vec_len bytes.old) bytes.new.items ≡ bytes.old.items) }
+    ensures count { IfOk result (λ n. vec_len bytes.new ≡ vec_len bytes.old + n) }
+    ensures within { OnOk result (vec_len bytes.new ≤ limit + 1) }
+    ensures end { IfOk result (λ n. n ≡ 0 → IfSome (slot_at (F.slots files.new) slot).tape IsAtEnd) }
+{
     let mut chunk = [0u8; CHUNK];
     let room = (limit - bytes.len()).saturating_add(1).min(CHUNK);
     let count = match files.read(slot, &mut chunk[..room]) {
@@ -95,13 +115,11 @@ pub fn read_whole<F: Files>(
     ensures last { F.last files.new ≡ last_read slot (F.last files.old) result }
     ensures strays { F.strays files.new ≡ F.strays files.old }
     ensures shelf { ShelfStays (F.shelf files.old) (F.shelf files.new) }
-    ensures slot {
-        MatchResult result
-            (λ v. SlotMoves (Yields v.items) (slot_at (F.slots files.old) slot) (slot_at (F.slots files.new) slot))
-            (λ _. SlotMoves (MovesUpTo (limit + 1)) (slot_at (F.slots files.old) slot) (slot_at (F.slots files.new) slot)) }
-    ensures stopped {
-        IsErrOf result ReadFail.Failed →
-            SlotMoves (MovesUpTo limit) (slot_at (F.slots files.old) slot) (slot_at (F.slots files.new) slot) }
+    ensures slot { MatchResult result
+        (λ v. SlotMoves (Yields v.items) (slot_at (F.slots files.old) slot) (slot_at (F.slots files.new) slot))
+        (λ _. SlotMoves (MovesUpTo (limit + 1)) (slot_at (F.slots files.old) slot) (slot_at (F.slots files.new) slot)) }
+    ensures stopped { IsErrOf result ReadFail.Failed →
+        SlotMoves (MovesUpTo limit) (slot_at (F.slots files.old) slot) (slot_at (F.slots files.new) slot) }
     ensures others { OthersStay slot (F.slots files.old) (F.slots files.new) }
     ensures count { IfOk result (λ v. vec_len v ≤ limit + 1) }
     ensures end { IfOk result (λ v. vec_len v ≤ limit → IfSome (slot_at (F.slots files.new) slot).tape IsAtEnd) }

@@ -12,9 +12,13 @@ pub struct Failed;
 /// Files in three slots: 0 the profile, 1 the script, 2 the capture.
 pub trait Files {
     ghost faults: { Self → ℕ };
+
     ghost last: { Self → ℕ };
+
     ghost strays: { Self → ℕ };
+
     ghost shelf: { Self → Shelf };
+
     ghost slots: { Self → Slots };
 
     /// Puts the file of this name into the slot, at its first byte.
@@ -36,10 +40,9 @@ pub trait Files {
         ensures last { last self.new ≡ last_failed slot (last self.old) result }
         ensures strays { strays self.new ≡ strays self.old }
         ensures shelf { ShelfStays (shelf self.old) (shelf self.new) }
-        ensures slot {
-            MatchResult result
-                (λ n. SlotMoves (Yields (take n buf.new)) (slot_at (slots self.old) slot) (slot_at (slots self.new) slot))
-                (λ _. SlotStays (slot_at (slots self.old) slot) (slot_at (slots self.new) slot)) }
+        ensures slot { MatchResult result
+            (λ n. SlotMoves (Yields (take n buf.new)) (slot_at (slots self.old) slot) (slot_at (slots self.new) slot))
+            (λ _. SlotStays (slot_at (slots self.old) slot) (slot_at (slots self.new) slot)) }
         ensures others { OthersStay slot (slots self.old) (slots self.new) }
         ensures count { IfOk result (λ n. n ≤ length buf.old) }
         ensures end { IfOk result (λ n. n ≡ 0 → IfSome (slot_at (slots self.new) slot).tape IsAtEnd) }
@@ -49,6 +52,7 @@ pub trait Files {
 /// A sink of bytes, as standard output.
 pub trait Sink {
     ghost faults: { Self → ℕ };
+
     ghost sent: { Self → Option (List ℕ) };
 
     /// Sends a front of `piece`, and answers its length.
@@ -57,8 +61,7 @@ pub trait Sink {
         ensures cause { HasCause (faults self.old) (faults self.new) result }
         ensures some { IfOk result (λ n. 0 < n) }
         ensures count { IfOk result (λ n. n ≤ length piece.now) }
-        ensures sent {
-            MatchResult result
-                (λ n. Grows (sent self.old) (take n piece.now) (sent self.new))
-                (λ _. Stays (sent self.old) (sent self.new)) };
+        ensures sent { MatchResult result
+            (λ n. Grows (sent self.old) (take n piece.now) (sent self.new))
+            (λ _. Stays (sent self.old) (sent self.new)) };
 }
