@@ -5,8 +5,8 @@ ghost use Rattle.outside.specs.Told.{Told, Stays, Grows};
 ghost use Rattle.reg_file.specs.declared.traits.Call.{Call};
 ghost use Rattle.reg_file.specs.Registers.{Cells, Dims, shaped_dims, InFile, InRange, AreZero, MakesCall, MakesFill};
 
-use std::alloc::Global;
 use stateful_ops::Op;
+use std::alloc::Global;
 
 /// Why a file got no shape.
 #[derive(Clone, Copy, Debug, PartialEq, Eq)]
@@ -30,8 +30,11 @@ pub struct Call {
 /// Arrays of registers of 32 bits, all of one length, a power of two.
 pub trait RegFile {
     ghost faults: { Self → ℕ };
+
     ghost dims: { Self → Dims };
+
     ghost cells: { Self → Option Cells };
+
     ghost calls: { Self → Option (List Call) };
 
     /// Makes `arrays` arrays of `2^bits` registers, all 0, and forgets all that was there.
@@ -52,8 +55,7 @@ pub trait RegFile {
         ensures faults { faults self.new ≡ faults self.old }
         ensures dims { dims self.new ≡ dims self.old }
         ensures cells { Told (MakesCall array addr op result) (cells self.old) (cells self.new) }
-        ensures calls {
-            let call : Call = record { array = array; addr = addr; op = op } in
+        ensures calls { let call : Call = record { array = array; addr = addr; op = op } in
             Grows (calls self.old) (call ∷ []) (calls self.new) };
 
     fn read(&mut self, array: u32, addr: u32) -> Result<u32, DeviceFault>

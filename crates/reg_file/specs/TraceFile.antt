@@ -1,0 +1,20 @@
+-- What clauses see of a `TraceFile` besides its registers.
+use Rattle.reg_file.specs.declared.trace.TraceFile.{TraceFile}
+use Rattle.reg_file.specs.Registers.{Cells, Dims}
+use Rattle.reg_file.specs.RamFile.{ram_dims, ram_cells}
+use Rattle.reg_file.specs.Log.{Log}
+use Rattle.reg_file.specs.Schedule.{Schedule}
+
+abbrev pub trace_dims : TraceFile → Dims
+trace_dims file = ram_dims file.file
+
+abbrev pub trace_cells : TraceFile → Cells
+trace_cells file = ram_cells file.file
+
+-- its calls of `rmw`
+abbrev pub log_of : TraceFile → Log
+log_of file = file.log
+
+-- its calls of `shape`, `read` and `fill`
+abbrev pub schedule_of : TraceFile → Schedule
+schedule_of file = file.schedule
