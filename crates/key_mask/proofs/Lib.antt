@@ -1,0 +1,4 @@
+pub mod BytesLemmas
+pub mod MaskLemmas
+pub mod Values
+pub mod PartLemmas

@@ -1,0 +1,78 @@
+//! Key vectors, and lists of bytes taken bit by bit.
+ghost use Rattle.std.specs.Prelude.{◌≡◌};
+ghost use Rattle.key_mask.specs.Bytes.{and_bytes, xor_bytes};
+ghost use Rattle.key_mask.specs.Masks.{mask_bytes_of};
+
+use crate::fields::KEY_BYTES;
+use crate::masks::{Mask, mask_bytes};
+use std::marker::Model;
+
+/// The header fields of a packet, or of a key value, in the order of [`crate::Field`]'s
+/// variants, each most significant byte first.
+#[derive(Clone, Copy, Debug, PartialEq, Eq)]
+pub struct KeyVec(pub [u8; KEY_BYTES]);
+
+impl Model for KeyVec {
+    ghost use Rattle.std.specs.Prelude.{ℕ, List};
+
+    ghost Value = { List ℕ };
+
+    ghost view = { λ v. v.0 };
+
+    ghost inverse = { λ bytes. record { 0 = bytes } };
+}
+
+impl KeyVec {
+    /// What the mask leaves of it.
+    pub fn masked(&self, mask: &Mask) -> KeyVec
+        ensures { result ≡ and_bytes self.now (mask_bytes_of mask.now) }
+    {
+        let mask = mask_bytes(mask);
+        KeyVec(and_of(&self.0, &mask))
+    }
+}
+
+/// The bits that are 1 in both.
+#[tactic(auto, using(crate::proofs::BytesLemmas::bytewise_all))]
+fn and_of(one: &[u8; KEY_BYTES], two: &[u8; KEY_BYTES]) -> [u8; KEY_BYTES]
+    ensures { result ≡ and_bytes one.now two.now }
+{
+    let mut bytes = [0; KEY_BYTES];
+    'bytes: for at in 0..KEY_BYTES {
+        bytes[at] = one[at] & two[at];
+    }
+    bytes
+}
+
+/// The bits that are 1 in one of them alone.
+#[tactic(auto, using(crate::proofs::BytesLemmas::bytewise_all))]
+pub(crate) fn xor_of(one: &[u8; KEY_BYTES], two: &[u8; KEY_BYTES]) -> [u8; KEY_BYTES]
+    ensures { result ≡ xor_bytes one.now two.now }
+{
+    let mut bytes = [0; KEY_BYTES];
+    'bytes: for at in 0..KEY_BYTES {
+        bytes[at] = one[at] ^ two[at];
+    }
+    bytes
+}
+
+#[cfg(test)]
+mod tests {
+    use super::KeyVec;
+    use crate::fields::{Field, KEY_BYTES};
+    use crate::masks::{mask_of, xors_to};
+    use std::test::Fail;
+
+    #[test]
+    fn masks_leave_prefixes(rt: HostRuntime) -> Result<(), Fail> {
+        let net = mask_of(&[(Field::SrcIp, 9)]).ok_or("a prefix of a source")?;
+        let kind = mask_of(&[(Field::Proto, 8)]).ok_or("a protocol")?;
+        let both = mask_of(&[(Field::Proto, 8), (Field::SrcIp, 9)]).ok_or("both")?;
+        let all = KeyVec([255; KEY_BYTES]);
+        let left = [255, 128, 0, 0, 0, 0, 0, 0, 0, 0, 0, 0, 255, 0, 0, 0];
+        assert_eq!(rt; all.masked(&both), KeyVec(left));
+        assert!(rt; xors_to(&net, &kind, &both));
+        assert!(rt; mask_of(&[(Field::SrcIp, 9), (Field::SrcIp, 8)]).is_none());
+        Ok(())
+    }
+}
