@@ -1,0 +1,4 @@
+pub mod HashLemmas
+pub mod RankLemmas
+pub mod Values
+pub mod WindowLemmas
