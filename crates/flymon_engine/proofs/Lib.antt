@@ -1,0 +1,10 @@
+mod FrameLemmas
+mod NameLemmas
+mod OpeningLemmas
+mod PassLemmas
+mod ReadLemmas
+mod ReportLemmas
+mod ScriptLemmas
+mod StepLemmas
+mod TopLemmas
+mod Values

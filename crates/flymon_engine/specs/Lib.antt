@@ -1,0 +1,12 @@
+pub mod Endings
+pub mod Words
+pub mod Script
+pub mod Frames
+pub mod Opening
+pub mod Plan
+pub mod Cells
+pub mod Lines
+pub mod Steps
+pub mod Carrying
+pub mod Clauses
+pub mod Seen

@@ -1,0 +1,132 @@
+//! The opening of a run: what the words name is attached, read and judged, in this order.
+ghost use Rattle.std.specs.Prelude.{◌≡◌, ◌+◌, ◌<◌, ◌≤◌, ◌==◌, cond, take, IfOk, IfErr, IfSome};
+ghost use Rattle.std.specs.Option.{option_and_then};
+ghost use Rattle.fm_io.specs.Slots.{slot_at, OthersStay};
+ghost use Rattle.fm_io.specs.Names.{ShelfStays, told_text};
+ghost use Rattle.flymon_engine.specs.Words.{form_of, texts_of};
+ghost use Rattle.flymon_engine.specs.Script.{session_in};
+ghost use Rattle.flymon_engine.specs.Frames.{packets_in};
+ghost use Rattle.flymon_engine.specs.Opening.{HasInputCause, IsReadStop, IsJudgeStop, IsFileStop, StopsWithin, KeepsStrays, stop_in};
+ghost use Rattle.flymon_engine.specs.Plan.{plan_told, plan_with, word_for, JudgesAs, OpensAs, StopsFormed, StopsInPlace};
+ghost use Rattle.flymon_engine.specs.Seen.{script_seen, plan_seen};
+
+use crate::frames::vectors_of;
+use crate::session::{SCRIPT_LIMIT, Session, session_of};
+use crate::stop::Stop;
+use crate::words::{Names, names_of};
+use fm_io::{Failed, Files, ReadFail, read_whole};
+use key_mask::KeyVec;
+use std::alloc::Global;
+
+/// A script that can be carried out, and the key vectors of the packets that it asks for.
+#[derive(Drop)]
+pub(crate) struct Opened {
+    pub session: Session,
+    pub packets: Vec<KeyVec>,
+}
+
+/// Reads and judges all that the words name.
+pub(crate) fn open<F: Files>(alloc: Global, words: &[String], files: &mut F) -> Result<Opened, Stop>
+    ensures later { F.faults files.old ≤ F.faults files.new }
+    ensures cause { IfErr result (HasInputCause (F.faults files.old) (F.faults files.new) (F.last files.new)) }
+    ensures plan { OpensAs plan_seen (plan_told (form_of (texts_of words.now)) (F.shelf files.new) (F.slots files.new)) result }
+    ensures place { IfErr result (StopsInPlace (form_of (texts_of words.now)) (F.shelf files.new) (F.slots files.new) (F.last files.new)) }
+    ensures strays { KeepsStrays (word_for (form_of (texts_of words.now)) (F.last files.new))
+        (F.shelf files.new).names (F.strays files.old) (F.strays files.new) (stop_in result) }
+{
+    let Some(names) = names_of(words) else {
+        return Err(Stop::Usage);
+    };
+    if names.profile != "-" {
+        return Err(Stop::Unbuilt);
+    }
+    open_files(alloc, names, files)
+}
+
+/// The script's file and then the capture's.
+fn open_files<F: Files>(alloc: Global, names: Names<'_>, files: &mut F) -> Result<Opened, Stop>
+    ensures later { F.faults files.old ≤ F.faults files.new }
+    ensures cause { IfErr result (HasInputCause (F.faults files.old) (F.faults files.new) (F.last files.new)) }
+    ensures stop { IfErr result IsFileStop }
+    ensures plan { OpensAs plan_seen
+        (option_and_then (λ text. plan_with (told_text (F.shelf files.new) (F.slots files.new).capture names.entry.capture.now) (session_in text))
+        (told_text (F.shelf files.new) (F.slots files.new).script names.entry.script.now)) result }
+    ensures within { F.last files.new ≡ 1 → IfErr result (StopsWithin SCRIPT_LIMIT (F.slots files.new).script) }
+    ensures formed { F.last files.new ≡ 2 → IfErr result (StopsFormed (told_text (F.shelf files.new) (F.slots files.new).script names.entry.script.now)) }
+    ensures strays { KeepsStrays (cond (F.last files.new == 1) names.entry.script.now names.entry.capture.now)
+        (F.shelf files.new).names (F.strays files.old) (F.strays files.new) (stop_in result) }
+{
+    let session = match session_from(alloc, files, names.script) {
+        Ok(session) => session,
+        Err(stop) => return Err(stop),
+    };
+    match packets_from(alloc, files, names.capture) {
+        Ok(packets) => Ok(Opened { session, packets }),
+        Err(stop) => Err(stop),
+    }
+}
+
+/// The session of the script of this name.
+fn session_from<F: Files>(alloc: Global, files: &mut F, name: &str) -> Result<Session, Stop>
+    ensures later { F.faults files.old ≤ F.faults files.new }
+    ensures cause { IfErr result (HasInputCause (F.faults files.old) (F.faults files.new) (F.last files.new)) }
+    ensures stop { IfErr result (IsJudgeStop 1) }
+    ensures within { IfErr result (StopsWithin SCRIPT_LIMIT (F.slots files.new).script) }
+    ensures shelf { ShelfStays (F.shelf files.old) (F.shelf files.new) }
+    ensures strays { KeepsStrays name.now (F.shelf files.new).names (F.strays files.old) (F.strays files.new) (stop_in result) }
+    ensures text { IfSome (told_text (F.shelf files.new) (F.slots files.new).script name.now) (λ bytes. JudgesAs script_seen (session_in bytes) result) }
+{
+    let script = bytes_of(alloc, files, 1, name, SCRIPT_LIMIT)?;
+    match session_of(alloc, &script) {
+        Ok(Some(session)) => Ok(session),
+        Ok(None) => Err(Stop::Unbuilt),
+        Err(_) => Err(Stop::Memory),
+    }
+}
+
+/// The key vectors of the capture of this name.
+fn packets_from<F: Files>(alloc: Global, files: &mut F, name: &str) -> Result<Vec<KeyVec>, Stop>
+    ensures later { F.faults files.old ≤ F.faults files.new }
+    ensures cause { IfErr result (HasInputCause (F.faults files.old) (F.faults files.new) (F.last files.new)) }
+    ensures stop { IfErr result (IsJudgeStop 2) }
+    ensures shelf { ShelfStays (F.shelf files.old) (F.shelf files.new) }
+    ensures others { OthersStay 2 (F.slots files.old) (F.slots files.new) }
+    ensures strays { KeepsStrays name.now (F.shelf files.new).names (F.strays files.old) (F.strays files.new) (stop_in result) }
+    ensures text { IfSome (told_text (F.shelf files.new) (F.slots files.new).capture name.now) (λ bytes. JudgesAs (λ v. v.items) (packets_in bytes) result) }
+{
+    let capture = bytes_of(alloc, files, 2, name, usize::MAX)?;
+    match vectors_of(alloc, &capture) {
+        Ok(Some(packets)) => Ok(packets),
+        Ok(None) => Err(Stop::Unbuilt),
+        Err(_) => Err(Stop::Memory),
+    }
+}
+
+/// The bytes of a file, attached to the slot: all of them, or one more than `limit`.
+fn bytes_of<F: Files>(
+    alloc: Global,
+    files: &mut F,
+    slot: usize,
+    name: &str,
+    limit: usize,
+) -> Result<Vec<u8>, Stop>
+    requires { slot < 3 }
+    ensures later { F.faults files.old ≤ F.faults files.new }
+    ensures cause { IfErr result (HasInputCause (F.faults files.old) (F.faults files.new) (F.last files.new)) }
+    ensures stop { IfErr result (IsReadStop slot) }
+    ensures within { IfErr result (StopsWithin limit (slot_at (F.slots files.new) slot)) }
+    ensures shelf { ShelfStays (F.shelf files.old) (F.shelf files.new) }
+    ensures others { OthersStay slot (F.slots files.old) (F.slots files.new) }
+    ensures strays { KeepsStrays name.now (F.shelf files.new).names (F.strays files.old) (F.strays files.new) (stop_in result) }
+    ensures text { IfOk result (λ v.
+        IfSome (told_text (F.shelf files.new) (slot_at (F.slots files.new) slot) name.now) (λ bytes. v.items ≡ take (limit + 1) bytes)) }
+{
+    if let Err(Failed) = files.attach(slot, name) {
+        return Err(Stop::Input { slot });
+    }
+    match read_whole(alloc, files, slot, limit) {
+        Ok(bytes) => Ok(bytes),
+        Err(ReadFail::Memory) => Err(Stop::Memory),
+        Err(ReadFail::Failed) => Err(Stop::Input { slot }),
+    }
+}

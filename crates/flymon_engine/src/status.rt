@@ -1,0 +1,39 @@
+//! How a run ended.
+ghost use Rattle.std.specs.Prelude.{◌≡◌};
+ghost use Rattle.flymon_engine.specs.Endings.{code_of};
+
+/// How a run ended, and so the status that the program ends with.
+#[derive(Clone, Copy, Debug, PartialEq, Eq)]
+pub enum Status {
+    /// Every command of the script was carried out.
+    Done,
+    /// The words are no form of the command line.
+    Usage,
+    /// A call on a file failed.
+    InputFault,
+    /// A call on the output failed.
+    OutputFault,
+    /// A call on the registers failed.
+    DeviceFault,
+    /// There was no memory for the run.
+    Memory,
+    /// The words, the script or the capture ask for what is not built.
+    Unbuilt,
+}
+
+impl Status {
+    /// The exit status of the program.
+    pub fn code(self) -> u8
+        ensures { result ≡ code_of self }
+    {
+        match self {
+            Status::Done => 0,
+            Status::Usage => 2,
+            Status::InputFault => 6,
+            Status::OutputFault => 7,
+            Status::DeviceFault => 8,
+            Status::Memory => 9,
+            Status::Unbuilt => 10,
+        }
+    }
+}

@@ -1,0 +1,128 @@
+//! The top call: all that the program does.
+ghost use Rattle.std.specs.Prelude.{◌≡◌, Some, IfErr};
+ghost use Rattle.outside.specs.Faults.{Rose};
+ghost use Rattle.hash_units.specs.Keys.{standard_key};
+ghost use Rattle.flymon_engine.specs.Words.{form_of, texts_of};
+ghost use Rattle.flymon_engine.specs.Opening.{HasInputCause};
+ghost use Rattle.flymon_engine.specs.Carrying.{IsCarryStop};
+ghost use Rattle.flymon_engine.specs.Seen.{plan_seen};
+ghost use Rattle.flymon_engine.specs.Plan.{plan_told};
+ghost use Rattle.flymon_engine.specs.Clauses.{status_in, message_of, IsVerdict, SendsText, MakesCalls, LaysOut, IsInPlace, KeepsNames, SendsMessage};
+
+use crate::carry::carry_all;
+use crate::opening::{Opened, open};
+use crate::report::report;
+use crate::row::Row;
+use crate::status::Status;
+use crate::stop::Stop;
+use fm_io::{Files, Sink};
+use hash_units::standard;
+use reg_file::{RegFile, ShapeFail};
+use std::alloc::Global;
+
+/// Carries out what the words of the command line ask for.
+///
+/// The words are those behind the program's own name. A task of `2^bits` cells stands at the head of array 0
+/// of 9 arrays of 1,024 registers, and its hash is under the standard key. A failed write to `err` changes no status.
+pub fn run<F: Files, R: RegFile, O: Sink, E: Sink>(
+    alloc: Global,
+    words: &[String],
+    files: &mut F,
+    regs: &mut R,
+    out: &mut O,
+    err: &mut E,
+) -> Status
+    ensures verdict { IsVerdict (plan_told (form_of (texts_of words.now)) (F.shelf files.new) (F.slots files.new)) result }
+    ensures place { IsInPlace (form_of (texts_of words.now)) (F.shelf files.new) (F.slots files.new) (F.last files.new) result }
+
+    // what was written
+    ensures text { SendsText standard_key (plan_told (form_of (texts_of words.now)) (F.shelf files.new) (F.slots files.new))
+        (R.cells regs.new) (O.sent out.old) result (O.sent out.new) }
+    ensures message { SendsMessage (message_of result (F.last files.new)) (E.faults err.old) (E.faults err.new) (E.sent err.old) (E.sent err.new) }
+
+    // what the registers were asked and hold
+    ensures calls { MakesCalls standard_key (plan_told (form_of (texts_of words.now)) (F.shelf files.new) (F.slots files.new))
+        (R.calls regs.old) result (R.calls regs.new) }
+    ensures registers { LaysOut standard_key (plan_told (form_of (texts_of words.now)) (F.shelf files.new) (F.slots files.new))
+        result (R.cells regs.new) }
+
+    // each fault has its cause
+    ensures input { result ≡ Status.InputFault → Rose (F.faults files.old) (F.faults files.new) }
+    ensures output { result ≡ Status.OutputFault → Rose (O.faults out.old) (O.faults out.new) }
+    ensures device { result ≡ Status.DeviceFault → Rose (R.faults regs.old) (R.faults regs.new) }
+    ensures names { KeepsNames (form_of (texts_of words.now)) (F.shelf files.new).names (F.last files.new) result (F.strays files.old) (F.strays files.new) }
+{
+    match execute(alloc, words, files, regs, out) {
+        Ok(()) => Status::Done,
+        Err(stop) => {
+            report(stop, err);
+            stop.status()
+        }
+    }
+}
+
+/// The opening, and then the script.
+fn execute<F: Files, R: RegFile, O: Sink>(
+    alloc: Global,
+    words: &[String],
+    files: &mut F,
+    regs: &mut R,
+    out: &mut O,
+) -> Result<(), Stop>
+    ensures verdict { IsVerdict (plan_told (form_of (texts_of words.now)) (F.shelf files.new) (F.slots files.new)) (status_in result) }
+    ensures place { IsInPlace (form_of (texts_of words.now)) (F.shelf files.new) (F.slots files.new) (F.last files.new) (status_in result) }
+    ensures text { SendsText standard_key (plan_told (form_of (texts_of words.now)) (F.shelf files.new) (F.slots files.new))
+        (R.cells regs.new) (O.sent out.old) (status_in result) (O.sent out.new) }
+    ensures calls { MakesCalls standard_key (plan_told (form_of (texts_of words.now)) (F.shelf files.new) (F.slots files.new))
+        (R.calls regs.old) (status_in result) (R.calls regs.new) }
+    ensures registers { LaysOut standard_key (plan_told (form_of (texts_of words.now)) (F.shelf files.new) (F.slots files.new))
+        (status_in result) (R.cells regs.new) }
+    ensures input { IfErr result (HasInputCause (F.faults files.old) (F.faults files.new) (F.last files.new)) }
+    ensures output { status_in result ≡ Status.OutputFault → Rose (O.faults out.old) (O.faults out.new) }
+    ensures device { status_in result ≡ Status.DeviceFault → Rose (R.faults regs.old) (R.faults regs.new) }
+    ensures names { KeepsNames (form_of (texts_of words.now)) (F.shelf files.new).names (F.last files.new) (status_in result) (F.strays files.old) (F.strays files.new) }
+{
+    match open(alloc, words, files) {
+        Ok(opened) => carry(alloc, &opened, regs, out),
+        Err(stop) => Err(stop),
+    }
+}
+
+/// How many arrays a switch has, and the bits of an address in one.
+const ARRAYS: u32 = 9;
+
+const ARRAY_BITS: u32 = 10;
+
+/// Shapes the registers, and carries out the script on them.
+fn carry<R: RegFile, O: Sink>(
+    alloc: Global,
+    opened: &Opened,
+    regs: &mut R,
+    out: &mut O,
+) -> Result<(), Stop>
+    ensures stop { IfErr result IsCarryStop }
+    ensures text { SendsText standard_key (Some (plan_seen opened.now)) (R.cells regs.new) (O.sent out.old) (status_in result) (O.sent out.new) }
+    ensures calls { MakesCalls standard_key (Some (plan_seen opened.now)) (R.calls regs.old) (status_in result) (R.calls regs.new) }
+    ensures registers { LaysOut standard_key (Some (plan_seen opened.now)) (status_in result) (R.cells regs.new) }
+    ensures output { status_in result ≡ Status.OutputFault → Rose (O.faults out.old) (O.faults out.new) }
+    ensures device { status_in result ≡ Status.DeviceFault → Rose (R.faults regs.old) (R.faults regs.new) }
+{
+    match regs.shape(alloc, ARRAYS, ARRAY_BITS) {
+        Ok(()) => {}
+        Err(ShapeFail::Memory) => return Err(Stop::Memory),
+        Err(ShapeFail::Device) => return Err(Stop::Device),
+    }
+    let session = &opened.session;
+    let row = Row::new(standard(), session.task.bits);
+    match carry_all(
+        &session.task.name,
+        &row,
+        &session.commands,
+        &opened.packets,
+        regs,
+        out,
+    ) {
+        Ok(()) => Ok(()),
+        Err(stop) => Err(stop),
+    }
+}
