@@ -1,0 +1,13 @@
+//! Whole runs over objects in memory, compared with outputs that were written out by hand.
+#![tactic(auto)]
+
+#[cfg(test)]
+mod captures;
+#[cfg(test)]
+mod faults;
+#[cfg(test)]
+mod rows;
+#[cfg(test)]
+mod runs;
+#[cfg(test)]
+mod system;

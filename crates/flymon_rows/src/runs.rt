@@ -1,0 +1,99 @@
+//! Runs of the program over objects in memory.
+ghost use Rattle.std.specs.Prelude.{◌<◌};
+
+use flymon_engine::{Status, run};
+use fm_io::{MemFile, MemFiles, MemSink};
+use reg_file::RegFile;
+use std::alloc::{AllocError, Global};
+use std::fmt::Debug;
+use std::process::Abort;
+
+/// A script that counts packets by their source, and reads the counters whole and one of them alone.
+pub(crate) const SCRIPT: &[u8; 98] =
+    b"add hot cms 1 key=src_ip attr=packets filter=all memory=32\nrun\nread hot\nquery hot src_ip:10.0.0.1\n";
+
+/// Room for all that a run of these tests writes.
+pub(crate) const ROOM: usize = 4096;
+
+/// Small pieces, and room for all.
+pub(crate) const LIMITS: Limits = Limits {
+    piece: 7,
+    room: ROOM,
+};
+
+/// The words of a run of the files that `session_files` makes.
+pub(crate) const WORDS: &str = "replay - S C";
+
+/// At most `piece` bytes are read or written at once, and `out` has room for `room` bytes.
+#[derive(Clone, Copy)]
+pub(crate) struct Limits {
+    pub piece: usize,
+    pub room: usize,
+    ghost moves: { 0 < piece },
+}
+
+/// How a run ended, and its sinks.
+#[derive(Drop)]
+pub(crate) struct Ending {
+    pub status: Status,
+    pub out: MemSink,
+    pub err: MemSink,
+}
+
+/// The script under the name `S`, and the capture under the name `C`.
+pub(crate) fn session_files(
+    alloc: Global,
+    script: &[u8],
+    capture: Vec<u8>,
+) -> Result<Vec<MemFile>, AllocError> {
+    let script = Vec::from_slice(alloc, script)?;
+    let mut files = Vec::new(alloc);
+    files.push(MemFile {
+        name: String::from_str(alloc, "S")?,
+        bytes: script,
+    })?;
+    files.push(MemFile {
+        name: String::from_str(alloc, "C")?,
+        bytes: capture,
+    })?;
+    Ok(files)
+}
+
+/// The words of a line.
+fn words_of(alloc: Global, line: &str) -> Result<Vec<String>, AllocError> {
+    let mut words = Vec::new(alloc);
+    'words: for word in line.split_whitespace() {
+        words.push(String::from_str(alloc, word)?)?;
+    }
+    Ok(words)
+}
+
+/// Runs the program on these words, files and registers.
+pub(crate) fn run_over<R: RegFile>(
+    alloc: Global,
+    words: &str,
+    files: Vec<MemFile>,
+    regs: &mut R,
+    limits: Limits,
+) -> Result<Ending, AllocError> {
+    let words = words_of(alloc, words)?;
+    let mut files = MemFiles::new(files, limits.piece, Vec::new(alloc));
+    let mut out = MemSink::new(alloc, limits.room, limits.piece, Vec::new(alloc))?;
+    let mut err = MemSink::new(alloc, ROOM, limits.piece, Vec::new(alloc))?;
+    let status = run(alloc, &words, &mut files, regs, &mut out, &mut err);
+    Ok(Ending { status, out, err })
+}
+
+/// Aborts unless a run ended in this status and sent these bytes. The message names the case.
+pub(crate) fn expect_ending(
+    rt: &impl Abort,
+    case: &impl Debug,
+    ending: &Ending,
+    status: Status,
+    out: &[u8],
+    err: &[u8],
+) {
+    assert_eq!(rt; ending.status, status, "at {case:?}");
+    assert_eq!(rt; ending.out.sent(), out, "at {case:?}");
+    assert_eq!(rt; ending.err.sent(), err, "at {case:?}");
+}
