@@ -1,0 +1,3 @@
+pub mod ReadingLemmas
+pub mod BeginLemmas
+pub mod CaptureLemmas

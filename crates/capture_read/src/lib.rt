@@ -1,0 +1,12 @@
+//! Captures of packets in the classic pcap format, record by record.
+#![tactic(auto)]
+
+pub mod laws;
+mod reader;
+mod records;
+
+pub use reader::{BeginFail, Capture};
+pub use records::{CaptureFault, Frame, Order, frame_in, order_in};
+
+#[cfg(test)]
+mod tests;
