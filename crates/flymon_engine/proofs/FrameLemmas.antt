@@ -1,60 +1,68 @@
--- One record of a capture read, over plain lists.
-use Rattle.std.proofs.Common.{◌≡◌, ℕ, zero, suc, ◌+◌, ◌-◌, ◌<◌, ◌≤◌, ◌==◌, true, false, List, [], ◌∷◌, ◌++◌, length, drop, Option, None, Some, refl, sym, ap, ◌∙◌, append_assoc, arith}
-use Rattle.std.specs.Option.{option_map}
-use Rattle.std.proofs.lemmas.Bool.Decides.{nat_tests}
+-- The packets of a capture, record by record, over plain readings.
+use Rattle.std.proofs.Common.{◌≡◌, ℕ, ◌<◌, List, [], ◌∷◌, ◌++◌, map, length, Option, None, Some, Result, Ok, Err, sym, ap, ◌∙◌, append_assoc, arith}
 use Rattle.std.proofs.lemmas.List.{append-nil}
-use Rattle.flymon_engine.specs.Frames.{has_header, record_length, vector_of, records_in, packets_in}
+use Rattle.capture_read.specs.declared.records.CaptureFault.{CaptureFault}
+use Rattle.capture_read.specs.Records.{Record, seen}
+use Rattle.capture_read.specs.declared.records.Frame.{Frame}
+use Rattle.pkt_headers.specs.declared.packets.Packet.{Packet}
+use Rattle.pkt_headers.specs.Packets.{packet_in}
+use Rattle.capture_read.specs.Reading.{Reading, Records, next_in, after_next, before_rest, records_in}
+use Rattle.capture_read.proofs.CaptureLemmas.{records_step}
+use Rattle.flymon_engine.specs.Frames.{Passage, vector_of, vector_by, passage_behind}
 
--- the packets that are found behind those that were found before
-abbrev pub behind : List (List ℕ) → Option (List (List ℕ)) → Option (List (List ℕ))
-behind before found = option_map (λ vectors. before ++ vectors) found
+behind_end : (packets : List (List ℕ)) (found : Result (Option Record) CaptureFault) (rest : Records)
+    → vector_by found ≡ Ok None → passage_behind packets (before_rest found rest) ≡ record { packets = packets; fault = None }
+behind_end packets (Err fault) rest e = cc
+behind_end packets (Ok None) rest e = ap (λ l. let p : Passage = record { packets = l; fault = None } in p) (append-nil packets)
+behind_end packets (Ok (Some found)) rest e = cc
 
-one_more : (before : List (List ℕ)) (vector : List ℕ) (found : Option (List (List ℕ)))
-    → behind (before ++ vector ∷ []) found ≡ behind before (option_map (λ vectors. vector ∷ vectors) found)
-one_more before vector None = refl
-one_more before vector (Some vectors) = ap Some (append_assoc before (vector ∷ []) vectors)
+pub ends : (packets : List (List ℕ)) (reading : Reading) (whole : Passage)
+    → Ok None ≡ vector_by (next_in reading) → passage_behind packets (records_in reading) ≡ whole
+    → record { packets = packets; fault = None } ≡ whole
+ends packets reading whole e so_far =
+    sym (behind_end packets (next_in reading) (records_in (after_next reading)) (sym e))
+    ∙ (ap (passage_behind packets) (sym (records_step reading)) ∙ so_far)
 
-pub record_read : (before : List (List ℕ)) (fuel more n : ℕ) (bytes : List ℕ) → fuel ≡ suc more → 0 < length bytes → record_length bytes ≡ Some n
-    → behind (before ++ vector_of (drop 16 bytes) ∷ []) (records_in more (drop n bytes)) ≡ behind before (records_in fuel bytes)
-record_read before fuel more n bytes e some read =
-    let full : (length bytes == 0) ≡ false = grind (arith, nat_tests) in
-    one_more before (vector_of (drop 16 bytes)) (records_in more (drop n bytes)) ∙ rw (e, full, read) refl
+behind_fault : (packets : List (List ℕ)) (found : Result (Option Record) CaptureFault) (rest : Records) (fault : CaptureFault)
+    → vector_by found ≡ Err fault → passage_behind packets (before_rest found rest) ≡ record { packets = packets; fault = Some fault }
+behind_fault packets (Err other) rest fault e = rw (append-nil packets) (ap (λ f. let p : Passage = record { packets = packets; fault = f } in p) cc)
+behind_fault packets (Ok None) rest fault e = cc
+behind_fault packets (Ok (Some found)) rest fault e = cc
 
-pub record_fault : (fuel more : ℕ) (bytes : List ℕ) → fuel ≡ suc more → 0 < length bytes → record_length bytes ≡ None → records_in fuel bytes ≡ None
-record_fault fuel more bytes e some fault =
-    let full : (length bytes == 0) ≡ false = grind (arith, nat_tests) in rw (e, full, fault) refl
+pub faults : (packets : List (List ℕ)) (reading : Reading) (whole : Passage) (fault : CaptureFault)
+    → Err fault ≡ vector_by (next_in reading) → passage_behind packets (records_in reading) ≡ whole
+    → record { packets = packets; fault = Some fault } ≡ whole
+faults packets reading whole fault e so_far =
+    sym (behind_fault packets (next_in reading) (records_in (after_next reading)) fault (sym e))
+    ∙ (ap (passage_behind packets) (sym (records_step reading)) ∙ so_far)
 
-pub no_record : (fuel : ℕ) (bytes : List ℕ) → length bytes ≡ 0 → records_in fuel bytes ≡ Some []
-no_record zero bytes none = rw none refl
-no_record (suc more) bytes none = rw none refl
+behind_more : (packets : List (List ℕ)) (found : Result (Option Record) CaptureFault) (rest : Records) (packet : List ℕ)
+    → vector_by found ≡ Ok (Some packet) → passage_behind packets (before_rest found rest) ≡ passage_behind (packets ++ packet ∷ []) rest
+behind_more packets (Err fault) rest packet e = cc
+behind_more packets (Ok None) rest packet e = cc
+behind_more packets (Ok (Some found)) rest packet e =
+    let same : vector_of found ≡ packet = cc in
+    rw (same) (ap (λ l. let p : Passage = record { packets = l; fault = rest.fault } in p) (sym (append_assoc packets (packet ∷ []) (map vector_of rest.list))))
 
-behind_none : (found : Option (List (List ℕ))) → behind [] found ≡ found
-behind_none None = refl
-behind_none (Some vectors) = refl
+pub goes_on : (packets : List (List ℕ)) (reading : Reading) (whole : Passage) (packet : List ℕ)
+    → Ok (Some packet) ≡ vector_by (next_in reading) → passage_behind packets (records_in reading) ≡ whole
+    → passage_behind (packets ++ packet ∷ []) (records_in (after_next reading)) ≡ whole
+goes_on packets reading whole packet e so_far =
+    sym (behind_more packets (next_in reading) (records_in (after_next reading)) packet (sym e))
+    ∙ (ap (passage_behind packets) (sym (records_step reading)) ∙ so_far)
 
-pub records_start : (bytes : List ℕ) → has_header bytes ≡ true
-    → behind [] (records_in (length bytes - 0) (drop 24 bytes)) ≡ packets_in bytes
-unfolding packets_in
-records_start bytes good =
-    let whole : length bytes - 0 ≡ length bytes = omega arith in
-    rw whole (behind_none (records_in (length bytes) (drop 24 bytes)) ∙ rw good refl)
+fewer_behind : (found : Result (Option Record) CaptureFault) (rest : Records) (packet : List ℕ)
+    → vector_by found ≡ Ok (Some packet) → length rest.list < length (before_rest found rest).list
+fewer_behind (Err fault) rest packet e = cc
+fewer_behind (Ok None) rest packet e = cc
+fewer_behind (Ok (Some found)) rest packet e = omega arith
 
-pub records_more : (all : Option (List (List ℕ))) (total count n : ℕ) (before : List (List ℕ)) (bytes : List ℕ)
-    → count + length bytes ≤ total → 0 < length bytes → record_length bytes ≡ Some n
-    → behind before (records_in (total - count) bytes) ≡ all
-    → behind (before ++ vector_of (drop 16 bytes) ∷ []) (records_in (total - (count + 1)) (drop n bytes)) ≡ all
-records_more all total count n before bytes room some read same =
-    let fuel : total - count ≡ suc (total - (count + 1)) = omega arith in
-    record_read before (total - count) (total - (count + 1)) n bytes fuel some read ∙ same
+pub fewer : (reading : Reading) (packet : List ℕ)
+    → Ok (Some packet) ≡ vector_by (next_in reading) → length (records_in (after_next reading)).list < length (records_in reading).list
+fewer reading packet e = rw (records_step reading) (fewer_behind (next_in reading) (records_in (after_next reading)) packet (sym e))
 
-pub records_fault : (all : Option (List (List ℕ))) (total count : ℕ) (before : List (List ℕ)) (bytes : List ℕ)
-    → count + length bytes ≤ total → 0 < length bytes → record_length bytes ≡ None
-    → behind before (records_in (total - count) bytes) ≡ all → None ≡ all
-records_fault all total count before bytes room some fault same =
-    let fuel : total - count ≡ suc (total - (count + 1)) = omega arith in
-    ap (behind before) (sym (record_fault (total - count) (total - (count + 1)) bytes fuel some fault)) ∙ same
-
-pub records_end : (all : Option (List (List ℕ))) (fuel : ℕ) (before : List (List ℕ)) (bytes : List ℕ)
-    → length bytes ≡ 0 → behind before (records_in fuel bytes) ≡ all → Some before ≡ all
-records_end all fuel before bytes none same =
-    ap Some (sym (append-nil before)) ∙ (ap (behind before) (sym (no_record fuel bytes none)) ∙ same)
+-- the vector of a frame that is lent
+pub vector_seen : (frame : Frame) (packet : Packet) → packet ≡ packet_in frame.bytes.now frame.len
+    → Ok (Some packet.vec) ≡ vector_by (seen (Ok (Some frame)))
+unfolding vector_of
+vector_seen frame packet e = ap (λ (p : Packet). Ok (Some p.vec)) e

@@ -1,3 +1,4 @@
+mod FaultLemmas
 mod FrameLemmas
 mod NameLemmas
 mod OpeningLemmas

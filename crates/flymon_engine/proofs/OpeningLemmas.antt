@@ -4,7 +4,6 @@ use Rattle.std.proofs.lemmas.List.{take_all, length-take}
 use Rattle.std.proofs.lemmas.Bool.{cases_lt}
 use Rattle.flymon_engine.specs.declared.session.TheConstants.{SCRIPT_LIMIT}
 use Rattle.flymon_engine.specs.Script.{Script, session_in}
-use Rattle.flymon_engine.specs.Frames.{packets_in}
 use Rattle.flymon_engine.proofs.ScriptLemmas.{session_long}
 
 session_take : (bytes : List ℕ) → session_in (take (SCRIPT_LIMIT + 1) bytes) ≡ session_in bytes
@@ -21,12 +20,3 @@ pub session_told : (told : Option (List ℕ)) (items : List ℕ) (found : Option
     → IfSome told (λ bytes. items ≡ take (SCRIPT_LIMIT + 1) bytes) → found ≡ session_in items → IfSome told (λ bytes. session_in bytes ≡ found)
 session_told None items found read is = tt
 session_told (Some bytes) items found read is = sym (session_take bytes) ∙ (ap session_in (sym read) ∙ sym is)
-
-whole : (n : ℕ) (items bytes : List ℕ) → items ≡ take n bytes → length items < n → items ≡ bytes
-whole n items bytes read short =
-    let fits : length bytes ≤ n = omega (arith, length-take n bytes, ap length read) in read ∙ take_all n bytes fits
-
-pub packets_told : (told : Option (List ℕ)) (items : List ℕ) (n : ℕ) (found : Option (List (List ℕ)))
-    → IfSome told (λ bytes. items ≡ take n bytes) → length items < n → found ≡ packets_in items → IfSome told (λ bytes. packets_in bytes ≡ found)
-packets_told None items n found read short is = tt
-packets_told (Some bytes) items n found read short is = ap packets_in (sym (whole n items bytes read short)) ∙ sym is

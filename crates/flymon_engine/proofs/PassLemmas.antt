@@ -1,5 +1,7 @@
 -- One packet more, over plain lists and registers.
-use Rattle.std.proofs.Common.{◌≡◌, ◌≢◌, ℕ, ◌+◌, ◌-◌, ◌^◌, ◌<◌, ◌≤◌, ◌==◌, true, false, cond, List, [], ◌∷◌, ◌++◌, length, take, drop, map, min, get_or, Option, None, Some, IfSome, sym, ap, ◌∙◌, arith, ⊎_elim, count_by}
+use Rattle.std.proofs.Common.{◌≡◌, ◌≢◌, ℕ, ◌+◌, ◌-◌, ◌^◌, ◌<◌, ◌≤◌, ◌==◌, Bool, refl, true, false, cond, List, [], ◌∷◌, ◌++◌, length, take, drop, map, min, get_or, Option, None, Some, IfSome, sym, ap, ◌∙◌, arith, ⊎_elim, count_by}
+use Rattle.std.specs.Prelude.{nat_lt, is_some, ◌&&◌, if◌then◌else◌}
+use Rattle.capture_read.specs.declared.records.CaptureFault.{CaptureFault}
 use Rattle.std.proofs.lemmas.Bool.{cases_eq, cases_lt}
 use Rattle.std.proofs.lemmas.Bool.Decides.{nat_tests}
 use Rattle.std.proofs.lemmas.List.{take_all, take_more, map-append, length-drop, length-take, get_or-drop}
@@ -101,3 +103,18 @@ if_told (Some x) p = p
 pub then_told : {P Q : Type 0} (a : Option Cells) → (P → Q) → IfSome a (λ _. P) → IfSome a (λ _. Q)
 then_told None f p = tt
 then_told (Some x) f p = f p
+
+-- whether fewer packets are left than are asked for, by their number
+pub damage_found : (fault : Option CaptureFault) (found : CaptureFault) (met : Bool) → (if met then fault else None) ≡ Some found → (met ≡ true) × (fault ≡ Some found)
+damage_found fault found true is = (refl, is)
+damage_found fault found false is = cc
+
+pub no_damage : (fault : Option CaptureFault) (few : Bool) → (if is_some fault && few then fault else None) ≡ None → (is_some fault && few) ≡ false
+no_damage None few is = refl
+no_damage (Some fault) true is = cc
+no_damage (Some fault) false is = refl
+
+pub not_met : (fault : Option CaptureFault) (packets : List (List ℕ)) (taken : ℕ)
+    → (if is_some fault && nat_lt (length packets - taken) most_packets then fault else None) ≡ None
+    → (is_some fault && nat_lt (length (drop taken packets)) most_packets) ≡ false
+not_met fault packets taken is = rw (length-drop taken packets) (no_damage fault (nat_lt (length packets - taken) most_packets) is)

@@ -1,11 +1,10 @@
 -- The worked session of a first run, computed from the definitions alone.
-use Rattle.std.proofs.Common.{◌≡◌, ℕ, List, [], ◌∷◌, ◌++◌, Some, None, refl, codes}
+use Rattle.std.proofs.Common.{◌≡◌, ℕ, List, [], ◌∷◌, Some, None, refl, codes}
 use Rattle.hash_units.specs.Keys.{standard_key}
 use Rattle.hash_units.specs.Toeplitz.{hash_of, window}
 use Rattle.key_mask.specs.Masks.{mask_bytes_of}
 use Rattle.flymon_engine.specs.declared.session.Command.TheVariants.{Run, Read, Query}
 use Rattle.flymon_engine.specs.Script.{Job, Script, session_in, task_in, named_in, bits_in, size_in, behind_label, command_in, query_in, at_in, address_in, octet_in}
-use Rattle.flymon_engine.specs.Frames.{packets_in, has_header, record_length, vector_of}
 use Rattle.flymon_engine.specs.Cells.{index_at, cell_at}
 use Rattle.flymon_engine.specs.Steps.{answer_of}
 

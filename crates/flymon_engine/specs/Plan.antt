@@ -11,21 +11,24 @@ use Rattle.flymon_engine.specs.declared.stop.Stop.{Stop}
 use Rattle.flymon_engine.specs.declared.stop.Stop.TheVariants as stops
 use Rattle.flymon_engine.specs.Words.{Form, Wrong, Replay}
 use Rattle.flymon_engine.specs.Script.{Script, session_in}
-use Rattle.flymon_engine.specs.Frames.{packets_in}
+use Rattle.capture_read.specs.declared.records.CaptureFault.{CaptureFault}
+use Rattle.flymon_engine.specs.Frames.{Passage, passage_in}
 use Rattle.flymon_engine.specs.Opening.{IsWithin}
 
--- a run is refused with a status, or carries out a script on the packets of a capture
+-- A run is refused with a status, or for a fault of the capture's header, or it carries out a script on the packets of a
+-- capture, which a fault may end.
 pub data Plan : Type 0 where
   Refused : (status : Status) → Plan
-  Carried : (script : Script) (packets : List (List ℕ)) → Plan
+  Damaged : (fault : CaptureFault) → Plan
+  Carried : (script : Script) (packets : List (List ℕ)) (fault : Option CaptureFault) → Plan
 
-abbrev pub plan_on : Script → Option (List (List ℕ)) → Plan
-plan_on script None = Refused statuses.Unbuilt
-plan_on script (Some packets) = Carried script packets
+abbrev pub plan_on : Script → Result Passage CaptureFault → Plan
+plan_on script (Err fault) = Damaged fault
+plan_on script (Ok passage) = Carried script passage.packets passage.fault
 
 abbrev pub plan_with : Option (List ℕ) → Option Script → Option Plan
 plan_with capture None = Some (Refused statuses.Unbuilt)
-plan_with capture (Some script) = option_map (λ bytes. plan_on script (packets_in bytes)) capture
+plan_with capture (Some script) = option_map (λ bytes. plan_on script (passage_in bytes)) capture
 
 -- the plan of a form whose script and capture have these bytes, where they are told
 abbrev pub plan_of : Form → Option (List ℕ) → Option (List ℕ) → Option Plan
@@ -63,17 +66,30 @@ IsFaultPlace (Replay profile script capture) shelf slots last = FailsInPlace pro
 abbrev pub JudgesAs : {T U : Type 0} → (T → U) → Option U → Result T Stop → Type 0
 JudgesAs seen found (Ok x) = found ≡ Some (seen x)
 JudgesAs seen found (Err stops.Unbuilt) = found ≡ None
+JudgesAs seen found (Err (stops.Capture fault)) = ⊥
 JudgesAs seen found (Err (stops.Input slot)) = Unit {0}
 JudgesAs seen found (Err stops.Memory) = Unit {0}
 JudgesAs seen found (Err stops.Usage) = ⊥
 JudgesAs seen found (Err stops.Output) = ⊥
 JudgesAs seen found (Err stops.Device) = ⊥
 
+-- the reading of the capture found its packets and how they end, or stopped at the fault of its header
+abbrev pub ReadsAs : {T : Type 0} → (T → Passage) → Result Passage CaptureFault → Result T Stop → Type 0
+ReadsAs seen found (Ok x) = found ≡ Ok (seen x)
+ReadsAs seen found (Err (stops.Capture fault)) = found ≡ Err fault
+ReadsAs seen found (Err (stops.Input slot)) = Unit {0}
+ReadsAs seen found (Err stops.Memory) = Unit {0}
+ReadsAs seen found (Err stops.Unbuilt) = ⊥
+ReadsAs seen found (Err stops.Usage) = ⊥
+ReadsAs seen found (Err stops.Output) = ⊥
+ReadsAs seen found (Err stops.Device) = ⊥
+
 -- the same of the whole opening
 abbrev pub OpensAs : {T : Type 0} → (T → Plan) → Option Plan → Result T Stop → Type 0
 OpensAs seen plan (Ok x) = IfSome plan (λ p. p ≡ seen x)
 OpensAs seen plan (Err stops.Usage) = IfSome plan (λ p. p ≡ Refused statuses.Usage)
 OpensAs seen plan (Err stops.Unbuilt) = IfSome plan (λ p. p ≡ Refused statuses.Unbuilt)
+OpensAs seen plan (Err (stops.Capture fault)) = IfSome plan (λ p. p ≡ Damaged fault)
 OpensAs seen plan (Err (stops.Input slot)) = Unit {0}
 OpensAs seen plan (Err stops.Memory) = Unit {0}
 OpensAs seen plan (Err stops.Output) = ⊥
@@ -81,6 +97,7 @@ OpensAs seen plan (Err stops.Device) = ⊥
 
 -- a file failed only where the script, as far as it is told, has its form
 abbrev pub StopsFormed : Option (List ℕ) → Stop → Type 0
+StopsFormed script (stops.Capture fault) = Unit {0}
 StopsFormed script (stops.Input slot) = IfSome script (λ text. IsSome (session_in text))
 StopsFormed script stops.Usage = Unit {0}
 StopsFormed script stops.Unbuilt = Unit {0}
@@ -90,6 +107,7 @@ StopsFormed script stops.Device = Unit {0}
 
 -- a file of the opening failed in its place
 abbrev pub StopsInPlace : Form → Shelf → Slots → ℕ → Stop → Type 0
+StopsInPlace form shelf slots last (stops.Capture fault) = Unit {0}
 StopsInPlace form shelf slots last (stops.Input slot) = IsFaultPlace form shelf slots last
 StopsInPlace form shelf slots last stops.Usage = Unit {0}
 StopsInPlace form shelf slots last stops.Unbuilt = Unit {0}

@@ -5,8 +5,8 @@ use Rattle.std.specs.declared.alloc.Global.{Global}
 use Rattle.flymon_engine.specs.declared.session.Command.{Command}
 use Rattle.std.specs.Option.{option_map}
 use Rattle.flymon_engine.specs.declared.task.Task.{Task}
-use Rattle.flymon_engine.specs.declared.stop.Stop.{Stop}
-use Rattle.flymon_engine.specs.declared.stop.Stop.TheVariants as stops
+use Rattle.flymon_engine.specs.declared.frames.Frames.{Frames}
+use Rattle.flymon_engine.specs.Frames.{Passage}
 use Rattle.flymon_engine.specs.declared.session.Session.{Session}
 use Rattle.flymon_engine.specs.declared.words.Names.{Names}
 use Rattle.flymon_engine.specs.Script.{Job, Script}
@@ -41,17 +41,8 @@ abbrev pub form_seen : Option Names → Form
 form_seen None = Wrong
 form_seen (Some names) = Replay names.profile.now names.script.now names.capture.now
 
-abbrev pub packets_of : Option (Vec (List ℕ) Global) → Option (List (List ℕ))
-packets_of = option_map (λ packets. packets.items)
+abbrev pub passage_seen : Frames → Passage
+passage_seen frames = record { packets = frames.packets.items; fault = frames.fault }
 
 abbrev pub plan_seen : Opened → Plan
-plan_seen opened = Carried (script_seen opened.session) opened.packets.items
-
--- the slot that a stop names, 0 where it names none
-abbrev pub slot_in : Stop → ℕ
-slot_in (stops.Input slot) = slot
-slot_in stops.Usage = 0
-slot_in stops.Unbuilt = 0
-slot_in stops.Output = 0
-slot_in stops.Device = 0
-slot_in stops.Memory = 0
+plan_seen opened = Carried (script_seen opened.session) opened.frames.packets.items opened.frames.fault

@@ -1,5 +1,6 @@
 -- A run, command by command: a step on a state, and text, calls and registers as functions of the same steps.
-use Rattle.std.specs.Prelude.{ℕ, List, [], ◌∷◌, ◌++◌, map, take, drop, length}
+use Rattle.std.specs.Prelude.{Bool, false, nat_lt, ◌&&◌, is_some, if◌then◌else◌, Option, None, ℕ, List, [], ◌∷◌, ◌++◌, map, take, drop, length}
+use Rattle.capture_read.specs.declared.records.CaptureFault.{CaptureFault}
 use Rattle.stateful_ops.specs.declared.ops.Op.TheVariants.{CondAdd}
 use Rattle.stateful_ops.specs.Ops.{register_max}
 use Rattle.reg_file.specs.declared.traits.Call.{Call}
@@ -53,26 +54,50 @@ call_on key bits vector = record { array = 0; addr = index_at key bits vector; o
 abbrev pub calls_of : List ℕ → Job → State → Command → List Call
 calls_of key job state command = map (call_on key job.bits) (taken_by state command)
 
-abbrev pub text_from : List ℕ → Job → State → List Command → List ℕ
-text_from key job state [] = []
-text_from key job state (command ∷ commands) = lines_of key job state command ++ text_from key job (after state command) commands
+-- the command asks for a packet where the capture is damaged
+abbrev pub meets : State → Option CaptureFault → Command → Bool
+meets state fault Run = is_some fault && nat_lt (length state.left) most_packets
+meets state fault Read = false
+meets state fault (Query at) = false
 
-abbrev pub calls_from : List ℕ → Job → State → List Command → List Call
-calls_from key job state [] = []
-calls_from key job state (command ∷ commands) = calls_of key job state command ++ calls_from key job (after state command) commands
+-- a command that meets the damage writes nothing, and no command is carried out behind it
+abbrev pub written : List ℕ → Job → Option CaptureFault → State → Command → List ℕ
+written key job fault state command = if meets state fault command then [] else lines_of key job state command
 
-abbrev pub state_from : State → List Command → State
-state_from state [] = state
-state_from state (command ∷ commands) = state_from (after state command) commands
+abbrev pub text_from : List ℕ → Job → Option CaptureFault → State → List Command → List ℕ
+text_from key job fault state [] = []
+text_from key job fault state (command ∷ commands) =
+    written key job fault state command ++ (if meets state fault command then [] else text_from key job fault (after state command) commands)
+
+abbrev pub calls_from : List ℕ → Job → Option CaptureFault → State → List Command → List Call
+calls_from key job fault state [] = []
+calls_from key job fault state (command ∷ commands) =
+    calls_of key job state command ++ (if meets state fault command then [] else calls_from key job fault (after state command) commands)
+
+-- the state that the commands leave, up to the damage
+abbrev pub state_from : Option CaptureFault → State → List Command → State
+state_from fault state [] = state
+state_from fault state (command ∷ commands) =
+    if meets state fault command then after state command else state_from fault (after state command) commands
+
+-- the damage, if the commands meet it
+abbrev pub fault_from : Option CaptureFault → State → List Command → Option CaptureFault
+fault_from fault state [] = None
+fault_from fault state (command ∷ commands) =
+    if meets state fault command then fault else fault_from fault (after state command) commands
 
 -- what the whole script writes
-abbrev pub text_of : List ℕ → Script → List (List ℕ) → List ℕ
-text_of key script packets = added_line script.job.name ++ text_from key script.job (start packets) script.commands
+abbrev pub text_of : List ℕ → Script → List (List ℕ) → Option CaptureFault → List ℕ
+text_of key script packets fault = added_line script.job.name ++ text_from key script.job fault (start packets) script.commands
 
 -- the operations that it makes
-abbrev pub calls_all : List ℕ → Script → List (List ℕ) → List Call
-calls_all key script packets = calls_from key script.job (start packets) script.commands
+abbrev pub calls_all : List ℕ → Script → List (List ℕ) → Option CaptureFault → List Call
+calls_all key script packets fault = calls_from key script.job fault (start packets) script.commands
 
 -- the packets that the task has counted at its end
-abbrev pub counted : Script → List (List ℕ) → List (List ℕ)
-counted script packets = (state_from (start packets) script.commands).past
+abbrev pub counted : Script → List (List ℕ) → Option CaptureFault → List (List ℕ)
+counted script packets fault = (state_from fault (start packets) script.commands).past
+
+-- the damage that the script meets
+abbrev pub fault_met : Script → List (List ℕ) → Option CaptureFault → Option CaptureFault
+fault_met script packets fault = fault_from fault (start packets) script.commands

@@ -2,7 +2,7 @@
 ghost use Rattle.std.specs.Prelude.{◌≡◌, ◌≤◌, ◌++◌, length, codes, IfErr, OnOk, OnErr};
 ghost use Rattle.outside.specs.Told.{Grows};
 ghost use Rattle.outside.specs.Sent.{CameInPart};
-ghost use Rattle.flymon_engine.specs.Carrying.{HasCarryCause};
+ghost use Rattle.flymon_engine.specs.Carrying.{IsFaultOf};
 ghost use Rattle.flymon_engine.specs.Lines.{added_line, packets_line, size_words, value_words, read_line, query_line, cell_line};
 
 use crate::stop::Stop;
@@ -100,7 +100,7 @@ pub(crate) fn line_end() -> Line
 /// Sends a line whole.
 pub(crate) fn send<O: Sink>(out: &mut O, line: &Line) -> Result<(), Stop>
     ensures later { O.faults out.old ≤ O.faults out.new }
-    ensures cause { IfErr result (HasCarryCause (O.faults out.old) (O.faults out.new) 0 0) }
+    ensures cause { IfErr result (IsFaultOf (O.faults out.old) (O.faults out.new) 0 0) }
     ensures sent { OnOk result (Grows (O.sent out.old) line.now.bytes (O.sent out.new)) }
     ensures part { OnErr result (CameInPart (O.sent out.old) line.now.bytes (O.sent out.new)) }
 {

@@ -5,24 +5,24 @@ ghost use Rattle.fm_io.specs.Slots.{slot_at, OthersStay};
 ghost use Rattle.fm_io.specs.Names.{ShelfStays, told_text};
 ghost use Rattle.flymon_engine.specs.Words.{form_of, texts_of};
 ghost use Rattle.flymon_engine.specs.Script.{session_in};
-ghost use Rattle.flymon_engine.specs.Frames.{packets_in};
-ghost use Rattle.flymon_engine.specs.Opening.{HasInputCause, IsReadStop, IsJudgeStop, IsFileStop, StopsWithin, KeepsStrays, stop_in};
-ghost use Rattle.flymon_engine.specs.Plan.{plan_told, plan_with, word_for, JudgesAs, OpensAs, StopsFormed, StopsInPlace};
-ghost use Rattle.flymon_engine.specs.Seen.{script_seen, plan_seen};
+ghost use Rattle.flymon_engine.specs.Frames.{passage_in};
+ghost use Rattle.flymon_engine.specs.Opening.{HasInputCause, IsReadStop, IsJudgeStop, IsCaptureStop, IsFileStop, StopsWithin, KeepsStrays, stop_in};
+ghost use Rattle.flymon_engine.specs.Plan.{plan_told, plan_with, word_for, JudgesAs, ReadsAs, OpensAs, StopsFormed, StopsInPlace};
+ghost use Rattle.flymon_engine.specs.Seen.{script_seen, passage_seen, plan_seen};
 
-use crate::frames::vectors_of;
+use crate::frames::{Frames, frames_of};
 use crate::session::{SCRIPT_LIMIT, Session, session_of};
 use crate::stop::Stop;
 use crate::words::{Names, names_of};
+use capture_read::{BeginFail, Capture, CaptureFault};
 use fm_io::{Failed, Files, ReadFail, read_whole};
-use key_mask::KeyVec;
 use std::alloc::Global;
 
-/// A script that can be carried out, and the key vectors of the packets that it asks for.
+/// A script that can be carried out, and the packets that it asks for.
 #[derive(Drop)]
 pub(crate) struct Opened {
     pub session: Session,
-    pub packets: Vec<KeyVec>,
+    pub frames: Frames,
 }
 
 /// Reads and judges all that the words name.
@@ -60,8 +60,8 @@ fn open_files<F: Files>(alloc: Global, names: Names<'_>, files: &mut F) -> Resul
         Ok(session) => session,
         Err(stop) => return Err(stop),
     };
-    match packets_from(alloc, files, names.capture) {
-        Ok(packets) => Ok(Opened { session, packets }),
+    match frames_from(alloc, files, names.capture) {
+        Ok(frames) => Ok(Opened { session, frames }),
         Err(stop) => Err(stop),
     }
 }
@@ -84,21 +84,27 @@ fn session_from<F: Files>(alloc: Global, files: &mut F, name: &str) -> Result<Se
     }
 }
 
-/// The key vectors of the capture of this name.
-fn packets_from<F: Files>(alloc: Global, files: &mut F, name: &str) -> Result<Vec<KeyVec>, Stop>
+/// The packets of the capture of this name.
+fn frames_from<F: Files>(alloc: Global, files: &mut F, name: &str) -> Result<Frames, Stop>
     ensures later { F.faults files.old ≤ F.faults files.new }
     ensures cause { IfErr result (HasInputCause (F.faults files.old) (F.faults files.new) (F.last files.new)) }
-    ensures stop { IfErr result (IsJudgeStop 2) }
+    ensures stop { IfErr result IsCaptureStop }
     ensures shelf { ShelfStays (F.shelf files.old) (F.shelf files.new) }
     ensures others { OthersStay 2 (F.slots files.old) (F.slots files.new) }
     ensures strays { KeepsStrays name.now (F.shelf files.new).names (F.strays files.old) (F.strays files.new) (stop_in result) }
-    ensures text { IfSome (told_text (F.shelf files.new) (F.slots files.new).capture name.now) (λ bytes. JudgesAs (λ v. v.items) (packets_in bytes) result) }
+    ensures text { IfSome (told_text (F.shelf files.new) (F.slots files.new).capture name.now) (λ bytes. ReadsAs passage_seen (passage_in bytes) result) }
 {
-    let capture = bytes_of(alloc, files, 2, name, usize::MAX)?;
-    match vectors_of(alloc, &capture) {
-        Ok(Some(packets)) => Ok(packets),
-        Ok(None) => Err(Stop::Unbuilt),
-        Err(_) => Err(Stop::Memory),
+    if let Err(Failed) = files.attach(2, name) {
+        return Err(Stop::Input { slot: 2 });
+    }
+    match Capture::begin(alloc, files) {
+        Ok(capture) => match frames_of(alloc, capture, files) {
+            Ok(frames) => Ok(frames),
+            Err(_) => Err(Stop::Memory),
+        },
+        Err(BeginFail::Fault(CaptureFault::Read)) => Err(Stop::Input { slot: 2 }),
+        Err(BeginFail::Fault(fault)) => Err(Stop::Capture(fault)),
+        Err(BeginFail::Memory) => Err(Stop::Memory),
     }
 }
 

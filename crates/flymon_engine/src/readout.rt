@@ -3,7 +3,7 @@ ghost use Rattle.std.specs.Prelude.{◌≡◌, ◌^◌, ◌<◌, ◌≤◌, leng
 ghost use Rattle.outside.specs.Told.{Stays, Grows};
 ghost use Rattle.outside.specs.Sent.{CameInPart, CameInFront};
 ghost use Rattle.flymon_engine.specs.Lines.{cell_line, query_line, read_lines};
-ghost use Rattle.flymon_engine.specs.Carrying.{HasCarryCause};
+ghost use Rattle.flymon_engine.specs.Carrying.{IsFaultOf};
 
 use crate::lines::{line_cell, line_end, line_query, line_read, send};
 use crate::stop::Stop;
@@ -24,7 +24,7 @@ pub(crate) fn read_out<R: RegFile, O: Sink>(
     requires room { size ≤ 2 ^ (R.dims regs.old).bits }
     ensures later { O.faults out.old ≤ O.faults out.new }
     ensures regs_later { R.faults regs.old ≤ R.faults regs.new }
-    ensures cause { IfErr result (HasCarryCause (O.faults out.old) (O.faults out.new) (R.faults regs.old) (R.faults regs.new)) }
+    ensures cause { IfErr result (IsFaultOf (O.faults out.old) (O.faults out.new) (R.faults regs.old) (R.faults regs.new)) }
     ensures dims { R.dims regs.new ≡ R.dims regs.old }
     ensures cells { Stays (R.cells regs.old) (R.cells regs.new) }
     ensures calls { Stays (R.calls regs.old) (R.calls regs.new) }
@@ -52,7 +52,7 @@ fn send_cell<R: RegFile, O: Sink>(index: u32, regs: &mut R, out: &mut O) -> Resu
     requires room { index < 2 ^ (R.dims regs.old).bits }
     ensures later { O.faults out.old ≤ O.faults out.new }
     ensures regs_later { R.faults regs.old ≤ R.faults regs.new }
-    ensures cause { IfErr result (HasCarryCause (O.faults out.old) (O.faults out.new) (R.faults regs.old) (R.faults regs.new)) }
+    ensures cause { IfErr result (IsFaultOf (O.faults out.old) (O.faults out.new) (R.faults regs.old) (R.faults regs.new)) }
     ensures dims { R.dims regs.new ≡ R.dims regs.old }
     ensures cells { Stays (R.cells regs.old) (R.cells regs.new) }
     ensures calls { Stays (R.calls regs.old) (R.calls regs.new) }
@@ -78,7 +78,7 @@ pub(crate) fn query<R: RegFile, O: Sink>(
     requires room { place < 2 ^ (R.dims regs.old).bits }
     ensures later { O.faults out.old ≤ O.faults out.new }
     ensures regs_later { R.faults regs.old ≤ R.faults regs.new }
-    ensures cause { IfErr result (HasCarryCause (O.faults out.old) (O.faults out.new) (R.faults regs.old) (R.faults regs.new)) }
+    ensures cause { IfErr result (IsFaultOf (O.faults out.old) (O.faults out.new) (R.faults regs.old) (R.faults regs.new)) }
     ensures dims { R.dims regs.new ≡ R.dims regs.old }
     ensures cells { Stays (R.cells regs.old) (R.cells regs.new) }
     ensures calls { Stays (R.calls regs.old) (R.calls regs.new) }

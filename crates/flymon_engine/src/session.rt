@@ -1,5 +1,5 @@
 //! The reader of scripts: one Count-Min task of one row that counts packets by source address.
-ghost use Rattle.std.specs.Prelude.{◌≡◌, ◌≤◌, [], ◌∷◌, length, IfOk, IfSome};
+ghost use Rattle.std.specs.Prelude.{◌≡◌, ◌≤◌, [], ◌∷◌, length, drop, IfOk, IfSome};
 ghost use Rattle.std.specs.Option.{option_copied, option_map};
 ghost use Rattle.std.specs.List.{list_all};
 ghost use Rattle.texts.specs.Cuts.{parts_behind};
@@ -7,7 +7,6 @@ ghost use Rattle.flymon_engine.specs.Script.{is_name, starts_low, name_in, is_na
 ghost use Rattle.flymon_engine.specs.Seen.{job_of, items_of, script_of};
 
 use crate::addresses::at_of;
-use crate::frames::rest_from;
 use crate::task::{Name, Task};
 use key_mask::KeyVec;
 use std::alloc::{AllocError, Global};
@@ -274,4 +273,11 @@ fn at_behind(behind: Option<&[u8]>) -> Option<KeyVec>
         Some(text) => at_of(text),
         None => None,
     }
+}
+
+fn rest_from(bytes: &[u8], start: usize) -> &[u8]
+    requires { start ≤ length bytes.now }
+    ensures { result.now ≡ drop start bytes.now }
+{
+    &bytes[start..]
 }

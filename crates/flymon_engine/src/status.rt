@@ -9,6 +9,8 @@ pub enum Status {
     Done,
     /// The words are no form of the command line.
     Usage,
+    /// The capture's header is bad, or the next packet that a command asks for is not a whole record.
+    BadCapture,
     /// A call on a file failed.
     InputFault,
     /// A call on the output failed.
@@ -29,6 +31,7 @@ impl Status {
         match self {
             Status::Done => 0,
             Status::Usage => 2,
+            Status::BadCapture => 5,
             Status::InputFault => 6,
             Status::OutputFault => 7,
             Status::DeviceFault => 8,

@@ -7,7 +7,7 @@ ghost use Rattle.flymon_engine.specs.Opening.{HasInputCause};
 ghost use Rattle.flymon_engine.specs.Carrying.{IsCarryStop};
 ghost use Rattle.flymon_engine.specs.Seen.{plan_seen};
 ghost use Rattle.flymon_engine.specs.Plan.{plan_told};
-ghost use Rattle.flymon_engine.specs.Clauses.{status_in, message_of, IsVerdict, SendsText, MakesCalls, LaysOut, IsInPlace, KeepsNames, SendsMessage};
+ghost use Rattle.flymon_engine.specs.Clauses.{status_in, StopsAs, IsVerdict, SendsText, MakesCalls, LaysOut, IsInPlace, KeepsNames, SendsReport};
 
 use crate::carry::carry_all;
 use crate::opening::{Opened, open};
@@ -38,7 +38,8 @@ pub fn run<F: Files, R: RegFile, O: Sink, E: Sink>(
     // what was written
     ensures text { SendsText standard_key (plan_told (form_of (texts_of words.now)) (F.shelf files.new) (F.slots files.new))
         (R.cells regs.new) (O.sent out.old) result (O.sent out.new) }
-    ensures message { SendsMessage (message_of result (F.last files.new)) (E.faults err.old) (E.faults err.new) (E.sent err.old) (E.sent err.new) }
+    ensures message { SendsReport (plan_told (form_of (texts_of words.now)) (F.shelf files.new) (F.slots files.new))
+        (F.last files.new) result (E.faults err.old) (E.faults err.new) (E.sent err.old) (E.sent err.new) }
 
     // what the registers were asked and hold
     ensures calls { MakesCalls standard_key (plan_told (form_of (texts_of words.now)) (F.shelf files.new) (F.slots files.new))
@@ -77,6 +78,7 @@ fn execute<F: Files, R: RegFile, O: Sink>(
         (R.calls regs.old) (status_in result) (R.calls regs.new) }
     ensures registers { LaysOut standard_key (plan_told (form_of (texts_of words.now)) (F.shelf files.new) (F.slots files.new))
         (status_in result) (R.cells regs.new) }
+    ensures damage { StopsAs (plan_told (form_of (texts_of words.now)) (F.shelf files.new) (F.slots files.new)) result }
     ensures input { IfErr result (HasInputCause (F.faults files.old) (F.faults files.new) (F.last files.new)) }
     ensures output { status_in result ≡ Status.OutputFault → Rose (O.faults out.old) (O.faults out.new) }
     ensures device { status_in result ≡ Status.DeviceFault → Rose (R.faults regs.old) (R.faults regs.new) }
@@ -101,6 +103,8 @@ fn carry<R: RegFile, O: Sink>(
     out: &mut O,
 ) -> Result<(), Stop>
     ensures stop { IfErr result IsCarryStop }
+    ensures verdict { IsVerdict (Some (plan_seen opened.now)) (status_in result) }
+    ensures damage { StopsAs (Some (plan_seen opened.now)) result }
     ensures text { SendsText standard_key (Some (plan_seen opened.now)) (R.cells regs.new) (O.sent out.old) (status_in result) (O.sent out.new) }
     ensures calls { MakesCalls standard_key (Some (plan_seen opened.now)) (R.calls regs.old) (status_in result) (R.calls regs.new) }
     ensures registers { LaysOut standard_key (Some (plan_seen opened.now)) (status_in result) (R.cells regs.new) }
@@ -114,15 +118,12 @@ fn carry<R: RegFile, O: Sink>(
     }
     let session = &opened.session;
     let row = Row::new(standard(), session.task.bits);
-    match carry_all(
+    carry_all(
         &session.task.name,
         &row,
         &session.commands,
-        &opened.packets,
+        &opened.frames,
         regs,
         out,
-    ) {
-        Ok(()) => Ok(()),
-        Err(stop) => Err(stop),
-    }
+    )
 }

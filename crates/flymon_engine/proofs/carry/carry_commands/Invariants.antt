@@ -3,7 +3,7 @@ use Rattle.outside.specs.Sent.{CameSoFar}
 use Rattle.flymon_engine.specs.Cells.{AreCells}
 use Rattle.flymon_engine.specs.Carrying.{IsToldBefore}
 use Rattle.flymon_engine.specs.Seen.{job_at}
-use Rattle.flymon_engine.specs.Steps.{start, state_at, state_from, calls_from, text_from}
+use Rattle.flymon_engine.specs.Steps.{start, state_at, state_from, fault_from, calls_from, text_from}
 use Rattle.flymon_engine.proofs.carry.carry_commands.Given as goal
 
 abbrev pub invariant-commands : goal.invariant-commands
@@ -14,9 +14,10 @@ invariant-commands g l = let r = g.R.RegFile in let o = g.O.Sink in let job = jo
   told : IsToldBefore (r.cells l.fn.regs) (r.cells l.regs);
   inside : l.taken ≤ length l.packets;
   cells : IfSome (r.cells l.regs) (AreCells l.row.key l.row.bits (take l.taken l.packets));
-  last : state_from (state_at l.packets l.taken) (drop l.command-index l.commands) ≡ state_from (start l.packets) l.commands;
-  calls : CameSoFar (r.calls l.fn.regs) (calls_from l.row.key job (start l.packets) l.commands)
-      (calls_from l.row.key job (state_at l.packets l.taken) (drop l.command-index l.commands)) (r.calls l.regs);
-  sent : IfSome (r.cells l.regs) (λ _. CameSoFar (o.sent l.fn.out) (text_from l.row.key job (start l.packets) l.commands)
-      (text_from l.row.key job (state_at l.packets l.taken) (drop l.command-index l.commands)) (o.sent l.out));
+  last : state_from l.fault (state_at l.packets l.taken) (drop l.command-index l.commands) ≡ state_from l.fault (start l.packets) l.commands;
+  met : fault_from l.fault (state_at l.packets l.taken) (drop l.command-index l.commands) ≡ fault_from l.fault (start l.packets) l.commands;
+  calls : CameSoFar (r.calls l.fn.regs) (calls_from l.row.key job l.fault (start l.packets) l.commands)
+      (calls_from l.row.key job l.fault (state_at l.packets l.taken) (drop l.command-index l.commands)) (r.calls l.regs);
+  sent : IfSome (r.cells l.regs) (λ _. CameSoFar (o.sent l.fn.out) (text_from l.row.key job l.fault (start l.packets) l.commands)
+      (text_from l.row.key job l.fault (state_at l.packets l.taken) (drop l.command-index l.commands)) (o.sent l.out));
 }
