@@ -1,5 +1,5 @@
 //! Sessions that are carried out to their end.
-use crate::captures::capture_of;
+use crate::captures::{big_capture_of, capture_of};
 use crate::runs::{LIMITS, Limits, ROOM, SCRIPT, WORDS, expect_ending, run_over, session_files};
 use flymon_engine::Status;
 use reg_file::{Call, RamFile, TraceFile};
@@ -22,6 +22,51 @@ fn counts_packets_by_source(rt: HostRuntime) -> Result<(), Fail> {
             b"",
         );
     }
+    Ok(())
+}
+
+#[test]
+fn counts_packets_of_a_big_endian_capture(rt: HostRuntime) -> Result<(), Fail> {
+    let alloc = rt.alloc();
+    let files = session_files(alloc, SCRIPT, big_capture_of(alloc, &[1, 1, 2, 1])?)?;
+    let ending = run_over(alloc, WORDS, files, &mut RamFile::new(), LIMITS)?;
+    expect_ending(
+        &rt,
+        &"big-endian",
+        &ending,
+        Status::Done,
+        b"added hot\npackets 4\nread hot rows 1 size 32 start 0\ncell 0 1 1\ncell 0 18 3\nend\nquery hot 3\n",
+        b"",
+    );
+    Ok(())
+}
+
+/// The record of a packet from 10.0.0.1 behind a VLAN tag, and one of no byte, whose packet had 60.
+const OTHER_RECORDS: &[u8; 70] = b"\x00\x00\x00\x00\x00\x00\x00\x00\x26\x00\x00\x00\x3a\x00\x00\x00\
+\x02\x00\x00\x00\x00\x02\x02\x00\x00\x00\x00\x01\x81\x00\x00\x05\x08\x00\
+\x45\x00\x00\x28\x00\x00\x00\x00\x40\x06\x00\x00\x0a\x00\x00\x01\xc0\xa8\x01\x01\
+\x00\x00\x00\x00\x00\x00\x00\x00\x00\x00\x00\x00\x3c\x00\x00\x00";
+
+#[test]
+fn counts_any_frame(rt: HostRuntime) -> Result<(), Fail> {
+    let alloc = rt.alloc();
+    let mut capture = capture_of(alloc, &[])?;
+    capture.extend_from_slice(OTHER_RECORDS)?;
+    // The link type is Ethernet by its low 16 bits.
+    if let Some(place) = capture.get_mut(22) {
+        *place = 1;
+    }
+    let files = session_files(alloc, SCRIPT, capture)?;
+    let ending = run_over(alloc, WORDS, files, &mut RamFile::new(), LIMITS)?;
+    // A frame without an IPv4 header has no source, and the hash of nothing is 0.
+    expect_ending(
+        &rt,
+        &"other frames",
+        &ending,
+        Status::Done,
+        b"added hot\npackets 2\nread hot rows 1 size 32 start 0\ncell 0 0 1\ncell 0 18 1\nend\nquery hot 1\n",
+        b"",
+    );
     Ok(())
 }
 
