@@ -1,6 +1,11 @@
-//! Regions of registers, and the address that a hash has in one.
+//! Regions of registers, the address that a hash has in one, and the shape of the switch whose
+//! arrays they stand in.
 #![tactic(auto)]
 
 mod regions;
+mod shapes;
 
 pub use regions::{Region, address, index};
+pub use shapes::{
+    LEAST_BITS, MOST_ARRAYS, MOST_BITS, MOST_CMUS, MOST_GROUPS, MOST_UNITS, SPLIT, Shape,
+};
