@@ -27,7 +27,7 @@ same_field one other e = sym (numbered one) ∙ ap (λ n. get_or fields n SrcIp)
   numbered Tos = refl
   numbered EtherType = refl
 
-number_below : (field : Field) → field_number field < FIELD_COUNT
+pub number_below : (field : Field) → field_number field < FIELD_COUNT
 number_below SrcIp = omega arith
 number_below DstIp = omega arith
 number_below SrcPort = omega arith
@@ -46,7 +46,7 @@ width_positive Tos = omega arith
 width_positive EtherType = omega arith
 
 -- a field that stands in a mask leaves some bit
-length_positive : (field : Field) (length : ℕ) → IsTrue (is_length field length) → 0 < length
+pub length_positive : (field : Field) (length : ℕ) → IsTrue (is_length field length) → 0 < length
 length_positive field length = positive (is_address field) (width_of field) length (width_positive field) where
   positive : (address : Bool) (width length : ℕ) → 0 < width
       → cond address (nat_le 1 length && nat_le length width) (length == width) ≡ true → 0 < length

@@ -1,5 +1,5 @@
 -- The fields of a key vector.
-use Rattle.std.specs.Prelude.{ℕ, List, [], ◌∷◌, Bool, true, false, ◌&&◌, ◌==◌, nat_le, if◌then◌else◌}
+use Rattle.std.specs.Prelude.{ℕ, List, [], ◌∷◌, Bool, true, false, ◌&&◌, ◌==◌, nat_le, if◌then◌else◌, codes}
 use Rattle.key_mask.specs.declared.fields.Field.{Field}
 use Rattle.key_mask.specs.declared.fields.Field.TheVariants.{SrcIp, DstIp, SrcPort, DstPort, Proto, Tos, EtherType}
 
@@ -41,3 +41,13 @@ is_address EtherType = false
 abbrev pub is_length : Field → ℕ → Bool
 is_length field length =
     if is_address field then nat_le 1 length && nat_le length (width_of field) else length == width_of field
+
+-- a field's name in texts
+abbrev pub name_of : Field → List ℕ
+name_of SrcIp = codes "src_ip"
+name_of DstIp = codes "dst_ip"
+name_of SrcPort = codes "src_port"
+name_of DstPort = codes "dst_port"
+name_of Proto = codes "proto"
+name_of Tos = codes "tos"
+name_of EtherType = codes "ethertype"

@@ -1,3 +1,5 @@
 pub mod Bytes
 pub mod Fields
+pub mod Keys
 pub mod Masks
+pub mod Numbers

@@ -1,6 +1,6 @@
 //! The fields of a key vector: their order, their widths, and how much of each a mask may leave.
-ghost use Rattle.std.specs.Prelude.{◌≡◌, ◌<◌};
-ghost use Rattle.key_mask.specs.Fields.{field_number, width_of, is_address, is_length};
+ghost use Rattle.std.specs.Prelude.{◌≡◌, ◌<◌, ◌≤◌, length};
+ghost use Rattle.key_mask.specs.Fields.{field_number, width_of, is_address, is_length, name_of};
 
 /// How many bytes a key vector has.
 pub const KEY_BYTES: usize = 16;
@@ -21,7 +21,7 @@ pub enum Field {
 }
 
 /// The fields in the order in which they stand in a key vector, each most significant byte first.
-pub(crate) const FIELDS: [Field; FIELD_COUNT] = [
+pub const FIELDS: [Field; FIELD_COUNT] = [
     Field::SrcIp,
     Field::DstIp,
     Field::SrcPort,
@@ -32,8 +32,8 @@ pub(crate) const FIELDS: [Field; FIELD_COUNT] = [
 ];
 
 impl Field {
-    /// Its place among [`FIELDS`], from 0.
-    pub(crate) fn number(self) -> usize
+    /// Its place among the fields, from 0, in the order of the variants.
+    pub fn number(self) -> usize
         ensures place { result ≡ field_number self }
         ensures below { result < FIELD_COUNT }
     {
@@ -60,7 +60,7 @@ impl Field {
     }
 
     /// Whether a mask may leave a prefix of it, and not only the whole.
-    pub(crate) fn is_address(self) -> bool
+    pub fn is_address(self) -> bool
         ensures { result ≡ is_address self }
     {
         match self {
@@ -77,6 +77,22 @@ impl Field {
             1 <= length && length <= self.width()
         } else {
             length == self.width()
+        }
+    }
+
+    /// Its name in texts, of at most 9 bytes.
+    pub fn name(self) -> &'static str
+        ensures text { result.now ≡ name_of self }
+        ensures short { length result.now ≤ 9 }
+    {
+        match self {
+            Field::SrcIp => "src_ip",
+            Field::DstIp => "dst_ip",
+            Field::SrcPort => "src_port",
+            Field::DstPort => "dst_port",
+            Field::Proto => "proto",
+            Field::Tos => "tos",
+            Field::EtherType => "ethertype",
         }
     }
 }

@@ -2,7 +2,7 @@
 ghost use Rattle.std.specs.Prelude.{◌≡◌, ◌↔◌, ◌≤◌, ◌-◌, ◌/◌, ◌^◌, IsTrue, IsSome, IfSome, map, length};
 ghost use Rattle.std.specs.List.{range_with_len};
 ghost use Rattle.key_mask.specs.Bytes.{xor_bytes};
-ghost use Rattle.key_mask.specs.Masks.{mask_bytes_of, prefix_byte, AreParts, lengths_of};
+ghost use Rattle.key_mask.specs.Masks.{mask_bytes_of, prefix_byte, AreLengths, AreParts, lengths_of};
 
 use crate::fields::{FIELD_COUNT, FIELDS, Field, KEY_BYTES};
 use crate::vectors::xor_of;
@@ -39,8 +39,27 @@ pub fn mask_of(parts: &[(Field, u32)]) -> Option<Mask>
     ensures value { IfSome result (λ mask. mask ≡ lengths_of parts.now) }
 {
     let lengths = lengths_from(parts)?;
-    let bytes = bytes_from(&lengths);
-    Some(Mask { lengths, bytes })
+    Some(mask_with(&lengths))
+}
+
+/// The mask of these prefix lengths of the fields, by their numbers.
+pub fn mask_with(lengths: &[u8; FIELD_COUNT]) -> Mask
+    requires { AreLengths lengths.now }
+    ensures { result ≡ lengths.now }
+{
+    let bytes = bytes_from(lengths);
+    Mask {
+        lengths: *lengths,
+        bytes,
+    }
+}
+
+/// The prefix lengths of the fields, by their numbers: 0 where a field does not stand in the mask.
+pub fn mask_lengths(mask: &Mask) -> [u8; FIELD_COUNT]
+    ensures same { result ≡ mask.now }
+    ensures allowed { AreLengths result }
+{
+    mask.lengths
 }
 
 /// The bytes of the vector that the mask leaves, each bit 1.

@@ -46,7 +46,7 @@ fn and_of(one: &[u8; KEY_BYTES], two: &[u8; KEY_BYTES]) -> [u8; KEY_BYTES]
 
 /// The bits that are 1 in one of them alone.
 #[tactic(auto, using(crate::proofs::BytesLemmas::bytewise_all))]
-pub(crate) fn xor_of(one: &[u8; KEY_BYTES], two: &[u8; KEY_BYTES]) -> [u8; KEY_BYTES]
+pub fn xor_of(one: &[u8; KEY_BYTES], two: &[u8; KEY_BYTES]) -> [u8; KEY_BYTES]
     ensures { result ≡ xor_bytes one.now two.now }
 {
     let mut bytes = [0; KEY_BYTES];

@@ -1,0 +1,13 @@
+use Rattle.std.proofs.Common.{[], ap, ◌∙◌, slice_index}
+use Rattle.std.specs.List.{fold}
+use Rattle.std.proofs.lemmas.List.{take_all}
+use Rattle.key_mask.specs.Fields.{fields, field_number}
+use Rattle.key_mask.specs.Keys.{with_field}
+use Rattle.key_mask.proofs.PrintLemmas.{line_of_fields}
+use Rattle.key_mask.proofs.printing.key_line.Goals as goal
+
+pub returns : goal.returns
+returns c =
+    c.fields.invariant.text
+    ∙ ap (fold (λ line field. with_field line field (slice_index c.args.lengths.now (field_number field))) []) (take_all c.fields.field-index fields c.fields-test.false)
+    ∙ line_of_fields c.args.lengths.now
