@@ -1,0 +1,4 @@
+pub mod FilterLemmas
+pub mod PrintLemmas
+pub mod Values
+pub mod TermLemmas
