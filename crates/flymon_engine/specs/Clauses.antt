@@ -142,6 +142,7 @@ KeepsNames form names last statuses.Memory before now = IfSome names (λ there. 
 abbrev pub file_word : ℕ → List ℕ
 file_word slot = if slot == 0 then codes "profile\n" else (if slot == 1 then codes "script\n" else codes "capture\n")
 
+-- what is wrong with a capture; a failed read is never told here, since it stops a run as an input fault
 abbrev pub fault_words : CaptureFault → List ℕ
 fault_words ShortHeader = codes "short header\n"
 fault_words BadMagic = codes "bad magic\n"

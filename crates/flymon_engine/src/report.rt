@@ -40,7 +40,7 @@ fn message(stop: Stop) -> Line
     line
 }
 
-/// What is wrong with a capture.
+/// What is wrong with a capture. A failed read is never told here: it stops a run as an input fault.
 fn push_fault(line: &mut Line, fault: CaptureFault)
     requires { length line.old.bytes ≤ 100 }
     ensures { line.new.bytes ≡ line.old.bytes ++ fault_words fault }

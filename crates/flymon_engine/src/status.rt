@@ -19,7 +19,7 @@ pub enum Status {
     DeviceFault,
     /// There was no memory for the run.
     Memory,
-    /// The words, the script or the capture ask for what is not built.
+    /// The words or the script ask for what is not built.
     Unbuilt,
 }
 
