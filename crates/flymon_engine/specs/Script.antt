@@ -1,6 +1,6 @@
 -- The form of a script: a first line that adds one Count-Min task of one row, and lines that run, read or query it.
 -- Words have one space between, numbers no leading zeros, and every line ends with LF.
-use Rattle.std.specs.Prelude.{ℕ, ◌+◌, ◌-◌, ◌*◌, ◌==◌, ◌||◌, ◌&&◌, Bool, false, nat_lt, nat_le, if◌then◌else◌, List, [], ◌∷◌, ◌++◌, length, take, drop, replicate, slice_index, codes, Option, None, Some}
+use Rattle.std.specs.Prelude.{ℕ, ◌==◌, ◌||◌, ◌&&◌, Bool, false, nat_lt, nat_le, if◌then◌else◌, List, [], ◌∷◌, ◌++◌, length, take, drop, replicate, slice_index, codes, Option, None, Some}
 use Rattle.std.specs.List.{list_all}
 use Rattle.std.specs.Option.{option_map, option_and_then}
 use Rattle.std.specs.Str.{bytes_eq}
@@ -8,6 +8,7 @@ use Rattle.texts.specs.Cuts.{front, back, parts}
 use Rattle.flymon_engine.specs.declared.session.Command.{Command}
 use Rattle.flymon_engine.specs.declared.session.Command.TheVariants.{Run, Read, Query}
 use Rattle.flymon_engine.specs.declared.session.TheConstants.{SCRIPT_LIMIT}
+use Rattle.key_mask.specs.Numbers.{digits_after, up_to, is_dot}
 
 -- the task that a script adds: its name, and the bits of its partition
 pub record Job : Type 0 where
@@ -73,25 +74,11 @@ abbrev pub is_text : List ℕ → Option (List ℕ) → Bool
 is_text text None = false
 is_text text (Some found) = bytes_eq found text
 
-abbrev pub is_digit : ℕ → Bool
-is_digit byte = nat_le 48 byte && nat_le byte 57
-
--- the number that decimal digits go on to behind those of n
-abbrev pub digits_after : ℕ → List ℕ → Option ℕ
-digits_after n [] = Some n
-digits_after n (c ∷ cs) = if is_digit c then digits_after (n * 10 + (c - 48)) cs else None
-
-abbrev pub up_to : ℕ → ℕ → Option ℕ
-up_to limit n = if nat_le n limit then Some n else None
-
 -- a number up to 255 in one to three digits, with no leading zero
 unfoldable pub octet_in : List ℕ → Option ℕ
 octet_in text =
     if length text == 0 || nat_lt 3 (length text) || slice_index text 0 == 48 && nat_lt 1 (length text) then None
     else option_and_then (up_to 255) (digits_after 0 text)
-
-abbrev pub is_dot : ℕ → Bool
-is_dot byte = byte == 46
 
 -- four numbers with dots between, as the bytes of a source address in a key vector
 unfoldable pub address_in : List ℕ → Option (List ℕ)

@@ -1,6 +1,7 @@
 //! The key value of a query: a source address.
 ghost use Rattle.std.specs.Prelude.{◌≡◌, ◌≤◌, length, IfSome};
-ghost use Rattle.flymon_engine.specs.Script.{at_in, address_in, octet_in, digits_after};
+ghost use Rattle.key_mask.specs.Numbers.{digits_after};
+ghost use Rattle.flymon_engine.specs.Script.{at_in, address_in, octet_in};
 
 use crate::session::behind_label;
 use key_mask::KeyVec;

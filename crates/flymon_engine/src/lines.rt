@@ -7,12 +7,9 @@ ghost use Rattle.flymon_engine.specs.Lines.{added_line, packets_line, size_words
 
 use crate::stop::Stop;
 use crate::task::Name;
-use arrayvec::ArrayString;
 use fm_io::{Sink, write_whole};
 use itoa::Buffer;
-
-/// A line of text, of at most 512 bytes.
-pub(crate) type Line = ArrayString<512>;
+pub(crate) use key_mask::Line;
 
 pub(crate) fn line_added(name: &Name) -> Line
     ensures { result.bytes ≡ added_line name.now.bytes }

@@ -1,5 +1,5 @@
 use Rattle.std.proofs.Common.{◌≡◌, ◌<◌, ◌^◌, drop}
-use Rattle.flymon_engine.specs.Script.{digits_after}
+use Rattle.key_mask.specs.Numbers.{digits_after}
 use Rattle.flymon_engine.proofs.addresses.digits_of.Given as goal
 
 abbrev pub invariant-digits : goal.invariant-digits
