@@ -1,11 +1,12 @@
 -- What is printed of a key, and how it is read again.
 use Rattle.std.proofs.Common.{◌≡◌, ◌≢◌, ℕ, zero, suc, ◌+◌, ◌/◌, ◌%◌, ◌<◌, ◌≤◌, ◌==◌, ◌&&◌, Bool, true, false, not, cond, ltb, List, [], ◌∷◌, ◌++◌, length, slice_index, slice_set, Option, None, Some, Ok, IsTrue, refl, ap, sym, ◌∙◌, subst, arith, append_assoc, length-append, ⊎_elim, eq-eqb, eqb-true}
-use Rattle.std.specs.List.{fold, join_with_byte, list_all, onto_first}
+use Rattle.std.specs.List.{fold, join_with_byte, list_all}
 use Rattle.std.specs.Fmt.{decimal}
 use Rattle.std.proofs.lemmas.Bool.{cases_eq, false≢true, ne_eqb}
 use Rattle.std.proofs.lemmas.Bool.Decides.{nat_tests}
 use Rattle.std.proofs.lemmas.Fmt.{decimal_digit, decimal_step}
 use Rattle.texts.specs.Cuts.{front, back, parts}
+use Rattle.texts.proofs.CutLemmas.{split_last, split_more}
 use Rattle.key_mask.specs.declared.fields.Field.{Field}
 use Rattle.key_mask.specs.declared.fields.Field.TheVariants.{SrcIp, DstIp, SrcPort, DstPort, Proto, Tos, EtherType}
 use Rattle.key_mask.specs.declared.fields.TheConstants.{FIELD_COUNT}
@@ -230,35 +231,17 @@ reads_all lengths known =
 
 -- ---- the commas part the items
 
-split_last : (xs : List ℕ) → list_all is_plain xs ≡ true → parts 44 xs ≡ xs ∷ []
-split_last [] e = refl
-split_last (x ∷ xs) e =
-    elim (x == 44) as (λ t. (not t && list_all is_plain xs) ≡ true
-    → cond t ([] ∷ parts 44 xs) (onto_first x (parts 44 xs)) ≡ (x ∷ xs) ∷ []) [
-      | true ↦ λ e. absurd (false≢true e)
-      | false ↦ λ e. rw (split_last xs e) refl
-    ] e
-
-split_more : (xs ys : List ℕ) → list_all is_plain xs ≡ true → parts 44 (xs ++ 44 ∷ ys) ≡ xs ∷ parts 44 ys
-split_more [] ys e = refl
-split_more (x ∷ xs) ys e =
-    elim (x == 44) as (λ t. (not t && list_all is_plain xs) ≡ true
-    → cond t ([] ∷ parts 44 (xs ++ 44 ∷ ys)) (onto_first x (parts 44 (xs ++ 44 ∷ ys))) ≡ (x ∷ xs) ∷ parts 44 ys) [
-      | true ↦ λ e. absurd (false≢true e)
-      | false ↦ λ e. rw (split_more xs ys e) refl
-    ] e
-
 pub parts_joined : (items : List (List ℕ)) → list_all (list_all is_plain) items ≡ true → 0 < length items → parts 44 (join_with_byte 44 items) ≡ items
 parts_joined [] e some = absurd (omega arith)
 parts_joined (item ∷ []) e some =
     elim (list_all is_plain item) as (λ b. list_all is_plain item ≡ b → (b && true) ≡ true → parts 44 item ≡ item ∷ []) [
-      | true ↦ λ t e. split_last item t
+      | true ↦ λ t e. split_last (λ b. b == 44) item t
       | false ↦ λ t e. absurd (false≢true e)
     ] refl e
 parts_joined (item ∷ next ∷ items) e some =
     elim (list_all is_plain item) as (λ b. list_all is_plain item ≡ b → (b && list_all (list_all is_plain) (next ∷ items)) ≡ true
     → parts 44 (join_with_byte 44 (item ∷ next ∷ items)) ≡ item ∷ next ∷ items) [
-      | true ↦ λ t e. split_more item (join_with_byte 44 (next ∷ items)) t ∙ ap (λ rest. item ∷ rest) (parts_joined (next ∷ items) e (omega arith))
+      | true ↦ λ t e. split_more (λ b. b == 44) item 44 (join_with_byte 44 (next ∷ items)) t refl ∙ ap (λ rest. item ∷ rest) (parts_joined (next ∷ items) e (omega arith))
       | false ↦ λ t e. absurd (false≢true e)
     ] refl e
 

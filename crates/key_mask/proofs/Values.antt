@@ -111,3 +111,12 @@ whole_addresses = refl
 a_prefix : key_text (0 ∷ 8 ∷ 0 ∷ 0 ∷ 0 ∷ 0 ∷ 16 ∷ []) ≡ codes "dst_ip/8,ethertype"
 unfolding key_text
 a_prefix = rw (decimal_digit 8 (omega arith)) refl
+
+-- the widest number, and one past it
+widest_number : number_in 10 4294967295 (codes "4294967295") ≡ Some 4294967295
+unfolding number_in
+widest_number = refl
+
+past_the_widest : number_in 10 4294967295 (codes "4294967296") ≡ None
+unfolding number_in
+past_the_widest = refl

@@ -35,8 +35,8 @@ fn address_of(text: &[u8]) -> Option<u32>
 
 /// A number up to `limit` in one to `most` decimal digits, with leading zeros or without.
 #[tactic(auto, using(std::proofs::lemmas::Bool::Decides::nat_tests), unfolding(crate::specs::Numbers::number_in))]
-pub(crate) fn number_of(text: &[u8], most: usize, limit: u32) -> Option<u32>
-    requires { most ≤ 5 }
+pub fn number_of(text: &[u8], most: usize, limit: u32) -> Option<u32>
+    requires { most ≤ 10 }
     ensures value { result ≡ number_in most limit text.now }
     ensures below { IfSome result (λ n. n ≤ limit) }
 {
@@ -44,12 +44,16 @@ pub(crate) fn number_of(text: &[u8], most: usize, limit: u32) -> Option<u32>
         return None;
     }
     let number = digits_of(text)?;
-    if number <= limit { Some(number) } else { None }
+    if number <= limit as u64 {
+        Some(number as u32)
+    } else {
+        None
+    }
 }
 
 /// The number that the decimal digits write.
-fn digits_of(text: &[u8]) -> Option<u32>
-    requires { length text.now ≤ 5 }
+fn digits_of(text: &[u8]) -> Option<u64>
+    requires { length text.now ≤ 10 }
     ensures { result ≡ digits_after 0 text.now }
 {
     let mut number = 0;
@@ -57,7 +61,7 @@ fn digits_of(text: &[u8]) -> Option<u32>
         if !digit.is_ascii_digit() {
             return None;
         }
-        number = number * 10 + (digit - b'0') as u32;
+        number = number * 10 + (digit - b'0') as u64;
     }
     Some(number)
 }
@@ -93,7 +97,7 @@ fn hex_digit_of(byte: u8) -> Option<u32>
 
 #[cfg(test)]
 mod tests {
-    use super::value_of;
+    use super::{number_of, value_of};
     use crate::fields::Field;
     use std::test::Fail;
 
@@ -117,5 +121,12 @@ mod tests {
             assert_eq!(rt; value_of(field, text), value);
         }
         Ok(())
+    }
+
+    #[test]
+    fn numbers_up_to_the_widest(rt: HostRuntime) {
+        assert_eq!(rt; number_of(b"4294967295", 10, u32::MAX), Some(u32::MAX));
+        assert_eq!(rt; number_of(b"4294967296", 10, u32::MAX), None);
+        assert_eq!(rt; number_of(b"04294967295", 10, u32::MAX), None);
     }
 }

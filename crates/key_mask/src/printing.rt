@@ -17,6 +17,7 @@ pub fn put_key(mask: &Mask) -> Line
     requires { mask.now ≢ no_lengths }
     ensures text { result.bytes ≡ key_text mask.now }
     ensures again { key_in result.bytes ≡ Ok mask.now }
+    ensures short { length result.bytes ≤ 98 }
 {
     let lengths = mask_lengths(mask);
     key_line(&lengths)
@@ -24,7 +25,8 @@ pub fn put_key(mask: &Mask) -> Line
 
 /// The items of the fields with these prefix lengths.
 fn key_line(lengths: &[u8; FIELD_COUNT]) -> Line
-    ensures { result.bytes ≡ key_text lengths.now }
+    ensures text { result.bytes ≡ key_text lengths.now }
+    ensures short { length result.bytes ≤ 98 }
 {
     let mut line = Line::new();
     'fields: for field in FIELDS {

@@ -96,7 +96,7 @@ digits_read n (c ∷ cs) d =
     let e : n * 10 + (c - 48) ≡ n * 10 + digit_value c = omega (arith, digit_value_digit c k) in
     rw t (ap (λ m. digits_after m cs) e ∙ digits_read (n * 10 + digit_value c) cs d.1)
 
-number_again : (most limit n : ℕ) → n ≤ limit → n < 2 ^ 64 → 0 < most → n < 10 ^ most → number_in most limit (decimal n) ≡ Some n
+pub number_again : (most limit n : ℕ) → n ≤ limit → n < 2 ^ 64 → 0 < most → n < 10 ^ most → number_in most limit (decimal n) ≡ Some n
 unfolding number_in
 number_again most limit n within small some fits =
     let numeral = decimal_is_IsNumeral n small in
@@ -111,7 +111,7 @@ digits_pass p each (c ∷ cs) d =
     let k = digit_from_value c d.0 in
     rw (each c k.0 k.1) (digits_pass p each cs d.1)
 
-decimal_pass : (p : ℕ → Bool) → ((c : ℕ) → 48 ≤ c → c ≤ 57 → p c ≡ true) → (n : ℕ) → n < 2 ^ 64 → list_all p (decimal n) ≡ true
+pub decimal_pass : (p : ℕ → Bool) → ((c : ℕ) → 48 ≤ c → c ≤ 57 → p c ≡ true) → (n : ℕ) → n < 2 ^ 64 → list_all p (decimal n) ≡ true
 decimal_pass p each n small = digits_pass p each (decimal n) (decimal_is_IsNumeral n small).0.1
 
 cut_dot : (xs ys : List ℕ) → list_all (λ c. not (is_dot c)) xs ≡ true → (front is_dot (xs ++ 46 ∷ ys) ≡ xs) × (back is_dot (xs ++ 46 ∷ ys) ≡ Some ys)

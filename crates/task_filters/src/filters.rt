@@ -1,5 +1,5 @@
 //! A filter matches the vectors that have its value under its mask.
-ghost use Rattle.std.specs.Prelude.{◌≡◌, ◌↔◌, IsTrue, Ok};
+ghost use Rattle.std.specs.Prelude.{◌≡◌, ◌≤◌, ◌↔◌, IsTrue, Ok, length};
 ghost use Rattle.key_mask.specs.Bytes.{xor_bytes};
 ghost use Rattle.key_mask.specs.Masks.{AreLengths};
 ghost use Rattle.task_filters.specs.Filters.{IsKept, IsVector, Matches, passes, AreDisjoint, are_disjoint};
@@ -48,6 +48,7 @@ impl Filter {
     pub fn put(&self) -> Line
         ensures text { result.bytes ≡ filter_text self.now }
         ensures again { filter_in result.bytes ≡ Ok self.now }
+        ensures short { length result.bytes ≤ 210 }
     {
         put_filter(&self.value, &self.mask)
     }

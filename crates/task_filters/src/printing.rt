@@ -14,6 +14,7 @@ use key_mask::{FIELD_COUNT, FIELDS, Field, KEY_BYTES, KeyVec, Line, Mask, mask_l
 #[tactic(auto, unfolding(crate::specs::Printing::filter_text))]
 pub(crate) fn put_filter(value: &KeyVec, mask: &Mask) -> Line
     ensures text { result.bytes ≡ filter_text (record { value = value.now; mask = mask.now }) }
+    ensures short { length result.bytes ≤ 210 }
     ensures long { length value.now ≡ KEY_BYTES }
     ensures allowed { AreLengths mask.now }
 {
@@ -37,7 +38,8 @@ fn vector_bytes(value: &KeyVec) -> [u8; KEY_BYTES]
 
 /// The items of the fields with these prefix lengths.
 fn filter_line(bytes: &[u8; KEY_BYTES], lengths: &[u8; FIELD_COUNT]) -> Line
-    ensures { result.bytes ≡ join_with_byte 44 (term_texts (record { value = bytes.now; mask = lengths.now }) fields) }
+    ensures text { result.bytes ≡ join_with_byte 44 (term_texts (record { value = bytes.now; mask = lengths.now }) fields) }
+    ensures short { length result.bytes ≤ 210 }
 {
     let mut line = Line::new();
     'fields: for field in FIELDS {

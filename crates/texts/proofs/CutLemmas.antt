@@ -1,6 +1,7 @@
 -- Where `position` finds the separator, the text is cut.
-use Rattle.std.proofs.Common.{◌≡◌, ℕ, ◌+◌, ◌≤◌, ◌==◌, suc, Bool, true, false, not, cond, ltb, List, [], ◌∷◌, length, take, drop, None, Some, position, refl, ap, ◌∙◌, arith}
-use Rattle.std.specs.List.{position_or_len, slice_split, onto_first}
+use Rattle.std.proofs.Common.{◌≡◌, ℕ, ◌+◌, ◌≤◌, ◌==◌, suc, Bool, true, false, not, cond, ltb, List, [], ◌∷◌, length, take, drop, None, Some, position, ◌++◌, ◌&&◌, refl, ap, ◌∙◌, arith}
+use Rattle.std.specs.List.{position_or_len, slice_split, onto_first, list_all}
+use Rattle.std.proofs.lemmas.Bool.{false≢true}
 use Rattle.std.proofs.lemmas.Bool.Decides.{nat_tests}
 use Rattle.std.proofs.lemmas.List.{take_all}
 use Rattle.texts.specs.Cuts.{front, back, parts, parts_behind}
@@ -71,3 +72,58 @@ parts_first c (x ∷ xs) =
       | true ↦ refl
       | false ↦ rw (parts_first c xs) refl
     ]
+
+-- ---- where no byte passes the test
+
+abbrev pub free_of : (ℕ → Bool) → List ℕ → Bool
+free_of p xs = list_all (λ x. not (p x)) xs
+
+pub front_free : (p : ℕ → Bool) (xs : List ℕ) → free_of p xs ≡ true → front p xs ≡ xs
+front_free p [] e = refl
+front_free p (x ∷ xs) e =
+    elim (p x) as (λ t. (not t && free_of p xs) ≡ true → cond t [] (x ∷ front p xs) ≡ x ∷ xs) [
+      | true ↦ λ e. absurd (false≢true e)
+      | false ↦ λ e. ap (λ ys. x ∷ ys) (front_free p xs e)
+    ] e
+
+pub back_free : (p : ℕ → Bool) (xs : List ℕ) → free_of p xs ≡ true → back p xs ≡ None
+back_free p [] e = refl
+back_free p (x ∷ xs) e =
+    elim (p x) as (λ t. (not t && free_of p xs) ≡ true → cond t (Some xs) (back p xs) ≡ None) [
+      | true ↦ λ e. absurd (false≢true e)
+      | false ↦ λ e. back_free p xs e
+    ] e
+
+pub front_before : (p : ℕ → Bool) (xs : List ℕ) (y : ℕ) (ys : List ℕ) → free_of p xs ≡ true → p y ≡ true → front p (xs ++ y ∷ ys) ≡ xs
+front_before p [] y ys e t = rw t refl
+front_before p (x ∷ xs) y ys e t =
+    elim (p x) as (λ b. (not b && free_of p xs) ≡ true → cond b [] (x ∷ front p (xs ++ y ∷ ys)) ≡ x ∷ xs) [
+      | true ↦ λ e. absurd (false≢true e)
+      | false ↦ λ e. ap (λ zs. x ∷ zs) (front_before p xs y ys e t)
+    ] e
+
+pub back_behind : (p : ℕ → Bool) (xs : List ℕ) (y : ℕ) (ys : List ℕ) → free_of p xs ≡ true → p y ≡ true → back p (xs ++ y ∷ ys) ≡ Some ys
+back_behind p [] y ys e t = rw t refl
+back_behind p (x ∷ xs) y ys e t =
+    elim (p x) as (λ b. (not b && free_of p xs) ≡ true → cond b (Some (xs ++ y ∷ ys)) (back p (xs ++ y ∷ ys)) ≡ Some ys) [
+      | true ↦ λ e. absurd (false≢true e)
+      | false ↦ λ e. back_behind p xs y ys e t
+    ] e
+
+pub split_last : (p : ℕ → Bool) (xs : List ℕ) → free_of p xs ≡ true → slice_split p xs ≡ xs ∷ []
+split_last p [] e = refl
+split_last p (x ∷ xs) e =
+    elim (p x) as (λ t. (not t && free_of p xs) ≡ true → cond t ([] ∷ slice_split p xs) (onto_first x (slice_split p xs)) ≡ (x ∷ xs) ∷ []) [
+      | true ↦ λ e. absurd (false≢true e)
+      | false ↦ λ e. rw (split_last p xs e) refl
+    ] e
+
+pub split_more : (p : ℕ → Bool) (xs : List ℕ) (y : ℕ) (ys : List ℕ) → free_of p xs ≡ true → p y ≡ true
+    → slice_split p (xs ++ y ∷ ys) ≡ xs ∷ slice_split p ys
+split_more p [] y ys e t = rw t refl
+split_more p (x ∷ xs) y ys e t =
+    elim (p x) as (λ b. (not b && free_of p xs) ≡ true
+    → cond b ([] ∷ slice_split p (xs ++ y ∷ ys)) (onto_first x (slice_split p (xs ++ y ∷ ys))) ≡ (x ∷ xs) ∷ slice_split p ys) [
+      | true ↦ λ e. absurd (false≢true e)
+      | false ↦ λ e. rw (split_more p xs y ys e t) refl
+    ] e

@@ -6,8 +6,8 @@ use Rattle.key_mask.specs.Keys.{with_field}
 use Rattle.key_mask.proofs.PrintLemmas.{line_of_fields}
 use Rattle.key_mask.proofs.printing.key_line.Goals as goal
 
-pub returns : goal.returns
-returns c =
+pub returns-clause-text : goal.returns-clause-text
+returns-clause-text c =
     c.fields.invariant.text
     ∙ ap (fold (λ line field. with_field line field (slice_index c.args.lengths.now (field_number field))) []) (take_all c.fields.field-index fields c.fields-test.false)
     ∙ line_of_fields c.args.lengths.now
