@@ -1,0 +1,4 @@
+pub mod LawLemmas
+pub mod PlaceLemmas
+pub mod UseLemmas
+pub mod Values

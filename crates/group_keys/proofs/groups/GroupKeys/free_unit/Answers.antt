@@ -1,0 +1,11 @@
+use Rattle.std.proofs.Common.{length, ap, arith}
+use Rattle.group_keys.specs.Units.{freed}
+use Rattle.group_keys.proofs.PlaceLemmas.{places_set, unit_changed}
+use Rattle.group_keys.proofs.groups.GroupKeys.free_unit.Goals as goal
+
+pub invariant_of-self : goal.invariant_of-self
+invariant_of-self c =
+    places_set c.self.inside.units c.self.inside.count c.args.unit c.without_use.result (omega (arith, c.requires, ap length c.self.view_is)) c.self.invariant
+
+pub returns : goal.returns
+returns c = unit_changed (freed) _ _ _ _ _ _ c.self.view_is c.requires c.without_use.ensures
