@@ -1,0 +1,10 @@
+pub mod AnswerLemmas
+pub mod ChainLemmas
+pub mod EstimateLemmas
+pub mod FoundLemmas
+pub mod KeptLemmas
+pub mod NameLemmas
+pub mod NameValues
+pub mod SizeLemmas
+pub mod TallyLemmas
+pub mod Values
