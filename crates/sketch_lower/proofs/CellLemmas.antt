@@ -1,0 +1,308 @@
+-- The cells before any packet, and after one more.
+use Rattle.std.proofs.Common.{◌≡◌, ℕ, zero, suc, ◌+◌, ◌^◌, ◌<◌, ◌≤◌, ◌==◌, ◌⊎◌, inl, inr, Bool, true, false, min, max, List, [], ◌∷◌, ◌++◌, length, map, set, get_or, replicate, nat_lt, if◌then◌else◌, bit_and, bit_or, refl, ap, sym, ◌∙◌, arith, ⊎_elim}
+use Rattle.std.specs.List.{filter, fold, sum, range_with_len}
+use Rattle.std.proofs.lemmas.Bool.{cases_eq, eq-eqb, ne_eqb}
+use Rattle.std.proofs.lemmas.Bool.Decides.{nat_tests}
+use Rattle.std.proofs.lemmas.List.{append-nil, length-set, length-replicate, get_or-set_same, get_or-set_other, same_lists, map_push}
+use Rattle.std.proofs.lemmas.List.Elements.{filter-append}
+use Rattle.std.proofs.lemmas.List.FromFn.{length-map-range_with_len, get_or-map-range_with_len}
+use Rattle.std.proofs.lemmas.List.Sums.{fold-append}
+use Rattle.pkt_headers.specs.declared.packets.Packet.{Packet}
+use Rattle.pkt_headers.specs.Packets.{weight_of}
+use Rattle.addr_translate.proofs.BlockLemmas.{index_lt}
+use Rattle.key_mask.specs.Bytes.{and_bytes}
+use Rattle.key_mask.specs.Masks.{mask_bytes_of}
+use Rattle.hash_units.proofs.HashLemmas.{hash_lt, row_hash_lt}
+use Rattle.stateful_ops.specs.declared.ops.Op.TheVariants.{CondAdd}
+use Rattle.stateful_ops.specs.Ops.{new_register, carry_of}
+use Rattle.sketch_defs.specs.declared.kinds.Kind.{Kind}
+use Rattle.sketch_defs.specs.declared.kinds.Kind.TheVariants.{Cms, SumaxSum, SumaxMax, Bloom, Mrac, Hll, FlagOr, FlagAnd}
+use Rattle.sketch_defs.specs.Tasks.{Sketch}
+use Rattle.sketch_defs.specs.Cells.{cell_max, key_hash, row_hash_at, place_at, brought_by, packets_at, gathered, closed_cell, closed_cells, raised_cell, next_bound, raised_rows, raised, chained_cells, bound_in, bound_at, cells_for, cells_of, row_of}
+use Rattle.sketch_lower.specs.Operations.{start_of, operation, operation_at, row_after}
+use Rattle.sketch_lower.specs.Laws.{CellsStart, CellsStep, CarryIsBound}
+
+-- ---- lists made from a function of the index
+
+-- the function changes at one place
+map_range_set : (f g : ℕ → ℕ) (n i : ℕ) → i < n → ((j : ℕ) → (j ≡ i → ⊥) → g j ≡ f j)
+    → map g (range_with_len 0 n) ≡ set (map f (range_with_len 0 n)) i (g i)
+map_range_set f g n i within same =
+    let old : List ℕ = map f (range_with_len 0 n) in
+    let long : length old ≡ n = length-map-range_with_len f 0 n in
+    same_lists (map g (range_with_len 0 n)) (set old i (g i))
+    (length-map-range_with_len g 0 n ∙ sym (length-set old i (g i) ∙ long))
+    (λ k d h. let inside : k < n = omega (arith, h, length-map-range_with_len g 0 n) in
+    let at : 0 + k ≡ k = omega arith in
+    get_or-map-range_with_len g 0 n k k d inside at
+    ∙ ⊎_elim
+    (λ (e : k ≡ i). ap g e ∙ sym (ap (λ m. get_or (set old i (g i)) m d) e ∙ get_or-set_same old i (g i) d (omega (arith, long, within))))
+    (λ (ne : k ≡ i → ⊥). same k ne ∙ sym (get_or-set_other old i k (g i) d ne ∙ get_or-map-range_with_len f 0 n k k d inside at))
+    (cases_eq k i))
+
+constant_range : {X : Type 0} (x : X) (from n : ℕ) → map (λ (i : ℕ). x) (range_with_len from n) ≡ replicate n x
+constant_range x from zero = refl
+constant_range x from (suc n) = ap (λ xs. x ∷ xs) (constant_range x (from + 1) n)
+
+-- ---- where a packet comes to
+
+pub place_lt : (key : List ℕ) (sketch : Sketch) (bits row : ℕ) (packet : Packet) → bits ≤ 32 → place_at key sketch bits row packet < 2 ^ bits
+unfolding place_at row_hash_at key_hash
+place_lt key sketch bits row packet few =
+    let bytes : List ℕ = and_bytes packet.vec (mask_bytes_of sketch.key) in
+    index_lt (row_hash_at key sketch row packet) bits (row_hash_lt (key_hash key sketch packet.vec) row (hash_lt key bytes)) few
+
+-- ---- kinds
+
+pub cases_chained : (kind : Kind) → (kind ≡ SumaxSum) ⊎ (kind ≡ SumaxSum → ⊥)
+cases_chained SumaxSum = inl refl
+cases_chained _ = inr (λ q. (cc))
+
+closed_for : (kind : Kind) → (kind ≡ SumaxSum → ⊥) → (key : List ℕ) (sketch : Sketch) (bits : ℕ) (packets : List Packet)
+    → cells_for kind key sketch bits packets ≡ closed_cells key sketch bits packets
+closed_for SumaxSum other key sketch bits packets = absurd (other refl)
+closed_for _ other key sketch bits packets = refl
+
+closed_is : (key : List ℕ) (sketch : Sketch) (bits : ℕ) (packets : List Packet) → (sketch.kind ≡ SumaxSum → ⊥)
+    → cells_of key sketch bits packets ≡ closed_cells key sketch bits packets
+unfolding cells_of
+closed_is key sketch bits packets other = closed_for sketch.kind other key sketch bits packets
+
+pub chained_is : (key : List ℕ) (sketch : Sketch) (bits : ℕ) (packets : List Packet) → sketch.kind ≡ SumaxSum
+    → cells_of key sketch bits packets ≡ chained_cells key sketch bits packets
+unfolding cells_of
+chained_is key sketch bits packets chained = ap (λ kind. cells_for kind key sketch bits packets) chained
+
+-- ---- closed kinds
+
+-- a counter that stops
+stopped_more : (total x : ℕ)
+    → min (total + x) cell_max ≡ (if nat_lt (min total cell_max) cell_max then min (min total cell_max + x) cell_max else min total cell_max)
+stopped_more total x = grind (arith, nat_tests)
+
+-- what a cell makes of one packet more
+gathered_more : (kind : Kind) (brought : List ℕ) (x bound : ℕ) → (kind ≡ SumaxSum → ⊥)
+    → gathered kind (brought ++ x ∷ []) ≡ new_register (operation kind x bound) (gathered kind brought)
+gathered_more Cms brought x bound other = ap (λ n. min n cell_max) (fold-append _ 0 brought (x ∷ [])) ∙ stopped_more (sum brought) x
+gathered_more SumaxSum brought x bound other = absurd (other refl)
+gathered_more SumaxMax brought x bound other = fold-append max 0 brought (x ∷ [])
+gathered_more Bloom brought x bound other = fold-append bit_or 0 brought (x ∷ [])
+gathered_more Mrac brought x bound other = ap (λ n. min n cell_max) (fold-append _ 0 brought (x ∷ [])) ∙ stopped_more (sum brought) x
+gathered_more Hll brought x bound other = fold-append max 0 brought (x ∷ [])
+gathered_more FlagOr brought x bound other = fold-append bit_or 0 brought (x ∷ [])
+gathered_more FlagAnd brought x bound other = fold-append bit_and cell_max brought (x ∷ [])
+
+none_gathered : (kind : Kind) → gathered kind [] ≡ start_of kind
+none_gathered Cms = refl
+none_gathered SumaxSum = refl
+none_gathered SumaxMax = refl
+none_gathered Bloom = refl
+none_gathered Mrac = refl
+none_gathered Hll = refl
+none_gathered FlagOr = refl
+none_gathered FlagAnd = refl
+
+filter_more_yes : (p : Packet → Bool) (packets : List Packet) (packet : Packet) → p packet ≡ true
+    → filter p (packets ++ packet ∷ []) ≡ filter p packets ++ packet ∷ []
+filter_more_yes p packets packet e = filter-append p packets (packet ∷ []) ∙ rw e refl
+
+filter_more_no : (p : Packet → Bool) (packets : List Packet) (packet : Packet) → p packet ≡ false
+    → filter p (packets ++ packet ∷ []) ≡ filter p packets
+filter_more_no p packets packet e = filter-append p packets (packet ∷ []) ∙ rw e (append-nil (filter p packets))
+
+closed_elsewhere : (key : List ℕ) (sketch : Sketch) (bits : ℕ) (packets : List Packet) (packet : Packet) (row index : ℕ)
+    → (index ≡ place_at key sketch bits row packet → ⊥)
+    → closed_cell key sketch bits (packets ++ packet ∷ []) row index ≡ closed_cell key sketch bits packets row index
+unfolding closed_cell
+closed_elsewhere key sketch bits packets packet row index other =
+    ap (λ came. gathered sketch.kind (map (brought_by sketch.kind key sketch bits row) came))
+    (filter_more_no (λ p. place_at key sketch bits row p == index) packets packet
+    (ne_eqb (place_at key sketch bits row packet) index (λ e. other (sym e))))
+
+closed_here : (key : List ℕ) (sketch : Sketch) (bits : ℕ) (packets : List Packet) (packet : Packet) (row bound : ℕ)
+    → (sketch.kind ≡ SumaxSum → ⊥)
+    → let place = place_at key sketch bits row packet in
+    closed_cell key sketch bits (packets ++ packet ∷ []) row place
+    ≡ new_register (operation_at key sketch bits row packet bound) (closed_cell key sketch bits packets row place)
+unfolding closed_cell
+closed_here key sketch bits packets packet row bound other =
+    let place : ℕ = place_at key sketch bits row packet in
+    let brought : Packet → ℕ = brought_by sketch.kind key sketch bits row in
+    let came : List Packet = packets_at key sketch bits packets row place in
+    ap (λ ps. gathered sketch.kind (map brought ps))
+    (filter_more_yes (λ p. place_at key sketch bits row p == place) packets packet (eq-eqb place place refl))
+    ∙ ap (gathered sketch.kind) (map_push brought came packet)
+    ∙ gathered_more sketch.kind (map brought came) (brought packet) bound other
+
+closed_row : (key : List ℕ) (sketch : Sketch) (bits : ℕ) (packets : List Packet) (row : ℕ) → row < sketch.rows
+    → row_of (closed_cells key sketch bits packets) row ≡ map (closed_cell key sketch bits packets row) (range_with_len 0 (2 ^ bits))
+unfolding closed_cells
+closed_row key sketch bits packets row within =
+    let at : 0 + row ≡ row = omega arith in
+    get_or-map-range_with_len (λ i. map (closed_cell key sketch bits packets i) (range_with_len 0 (2 ^ bits))) 0 sketch.rows row row [] within at
+
+closed_step : (key : List ℕ) (sketch : Sketch) (bits : ℕ) (packets : List Packet) (packet : Packet) (row bound : ℕ)
+    → (sketch.kind ≡ SumaxSum → ⊥) → bits ≤ 32 → row < sketch.rows
+    → row_of (closed_cells key sketch bits (packets ++ packet ∷ [])) row
+    ≡ row_after key sketch bits row packet bound (row_of (closed_cells key sketch bits packets) row)
+unfolding row_after
+closed_step key sketch bits packets packet row bound other few within =
+    let place : ℕ = place_at key sketch bits row packet in
+    let room : place < 2 ^ bits = place_lt key sketch bits row packet few in
+    let old : ℕ → ℕ = closed_cell key sketch bits packets row in
+    let new : ℕ → ℕ = closed_cell key sketch bits (packets ++ packet ∷ []) row in
+    let cells : List ℕ = map old (range_with_len 0 (2 ^ bits)) in
+    let at : 0 + place ≡ place = omega arith in
+    let found : get_or cells place 0 ≡ old place = get_or-map-range_with_len old 0 (2 ^ bits) place place 0 room at in
+    let left : new place ≡ new_register (operation_at key sketch bits row packet bound) (get_or cells place 0) =
+    closed_here key sketch bits packets packet row bound other ∙ ap (new_register (operation_at key sketch bits row packet bound)) (sym found) in
+    closed_row key sketch bits (packets ++ packet ∷ []) row within
+    ∙ map_range_set old new (2 ^ bits) place room (λ j ne. closed_elsewhere key sketch bits packets packet row j ne)
+    ∙ ap (set cells place) left
+    ∙ ap (λ row_cells. set row_cells place (new_register (operation_at key sketch bits row packet bound) (get_or row_cells place 0)))
+    (sym (closed_row key sketch bits packets row within))
+
+-- ---- the chained kind
+
+operation_chained : (key : List ℕ) (sketch : Sketch) (bits row : ℕ) (packet : Packet) (bound : ℕ) → sketch.kind ≡ SumaxSum
+    → operation_at key sketch bits row packet bound ≡ CondAdd (weight_of packet sketch.attr) bound
+operation_chained key sketch bits row packet bound chained =
+    ap (λ kind. operation kind (brought_by kind key sketch bits row packet) bound) chained
+
+-- raising a row is its operation
+pub raised_after : (key : List ℕ) (sketch : Sketch) (bits row : ℕ) (packet : Packet) (bound : ℕ) (cells : List ℕ) → sketch.kind ≡ SumaxSum
+    → let place = place_at key sketch bits row packet in
+    set cells place (raised_cell (weight_of packet sketch.attr) bound (get_or cells place 0)) ≡ row_after key sketch bits row packet bound cells
+unfolding row_after
+raised_after key sketch bits row packet bound cells chained =
+    let place : ℕ = place_at key sketch bits row packet in
+    ap (λ op. set cells place (new_register op (get_or cells place 0))) (sym (operation_chained key sketch bits row packet bound chained))
+
+pub carried : (key : List ℕ) (sketch : Sketch) (bits row : ℕ) (packet : Packet) (bound cell : ℕ) → sketch.kind ≡ SumaxSum
+    → carry_of (operation_at key sketch bits row packet bound) cell ≡ next_bound (weight_of packet sketch.attr) bound cell
+carried key sketch bits row packet bound cell chained = ap (λ op. carry_of op cell) (operation_chained key sketch bits row packet bound chained)
+
+-- one of the raised rows
+raised_row : (key : List ℕ) (sketch : Sketch) (bits : ℕ) (packet : Packet) (bound row : ℕ) (rows : List (List ℕ)) (i : ℕ)
+    → sketch.kind ≡ SumaxSum → i < length rows
+    → row_of (raised_rows key sketch bits packet bound row rows) i
+    ≡ row_after key sketch bits (row + i) packet (bound_in key sketch bits packet bound row rows i) (row_of rows i)
+raised_row key sketch bits packet bound row [] i chained within = absurd (omega arith)
+raised_row key sketch bits packet bound row (cells ∷ rows) zero chained within =
+    let same : row ≡ row + 0 = omega arith in
+    raised_after key sketch bits row packet bound cells chained ∙ ap (λ r. row_after key sketch bits r packet bound cells) same
+raised_row key sketch bits packet bound row (cells ∷ rows) (suc i) chained within =
+    let next : ℕ = next_bound (weight_of packet sketch.attr) bound (get_or cells (place_at key sketch bits row packet) 0) in
+    let same : row + 1 + i ≡ row + suc i = omega arith in
+    raised_row key sketch bits packet next (row + 1) rows i chained (omega arith)
+    ∙ ap (λ r. row_after key sketch bits r packet (bound_in key sketch bits packet next (row + 1) rows i) (row_of rows i)) same
+
+length-raised_rows : (key : List ℕ) (sketch : Sketch) (bits : ℕ) (packet : Packet) (bound row : ℕ) (rows : List (List ℕ))
+    → length (raised_rows key sketch bits packet bound row rows) ≡ length rows
+length-raised_rows key sketch bits packet bound row [] = refl
+length-raised_rows key sketch bits packet bound row (cells ∷ rows) =
+    ap suc
+    (length-raised_rows key sketch bits packet
+    (next_bound (weight_of packet sketch.attr) bound (get_or cells (place_at key sketch bits row packet) 0)) (row + 1) rows)
+
+length-folded : (key : List ℕ) (sketch : Sketch) (bits : ℕ) (packets : List Packet) (rows : List (List ℕ))
+    → length (fold (raised key sketch bits) rows packets) ≡ length rows
+unfolding raised
+length-folded key sketch bits [] rows = refl
+length-folded key sketch bits (packet ∷ packets) rows =
+    length-folded key sketch bits packets (raised key sketch bits rows packet) ∙ length-raised_rows key sketch bits packet cell_max 0 rows
+
+length-chained : (key : List ℕ) (sketch : Sketch) (bits : ℕ) (packets : List Packet)
+    → length (chained_cells key sketch bits packets) ≡ sketch.rows
+unfolding chained_cells
+length-chained key sketch bits packets =
+    length-folded key sketch bits packets (replicate sketch.rows (replicate (2 ^ bits) 0))
+    ∙ length-replicate sketch.rows (replicate (2 ^ bits) 0)
+
+pub chained_more : (key : List ℕ) (sketch : Sketch) (bits : ℕ) (packets : List Packet) (packet : Packet)
+    → chained_cells key sketch bits (packets ++ packet ∷ []) ≡ raised key sketch bits (chained_cells key sketch bits packets) packet
+unfolding chained_cells
+chained_more key sketch bits packets packet =
+    fold-append (raised key sketch bits) (replicate sketch.rows (replicate (2 ^ bits) 0)) packets (packet ∷ [])
+
+chained_step : (key : List ℕ) (sketch : Sketch) (bits : ℕ) (packets : List Packet) (packet : Packet) (row : ℕ)
+    → sketch.kind ≡ SumaxSum → row < sketch.rows
+    → let before = chained_cells key sketch bits packets in
+    row_of (chained_cells key sketch bits (packets ++ packet ∷ [])) row
+    ≡ row_after key sketch bits row packet (bound_at key sketch bits before packet row) (row_of before row)
+unfolding raised bound_at
+chained_step key sketch bits packets packet row chained within =
+    let before : List (List ℕ) = chained_cells key sketch bits packets in
+    let same : 0 + row ≡ row = omega arith in
+    ap (λ rows. row_of rows row) (chained_more key sketch bits packets packet)
+    ∙ raised_row key sketch bits packet cell_max 0 before row chained (omega (arith, within, length-chained key sketch bits packets))
+    ∙ ap (λ r. row_after key sketch bits r packet (bound_in key sketch bits packet cell_max 0 before row) (row_of before row)) same
+
+-- the bound after one row more
+bound_more : (key : List ℕ) (sketch : Sketch) (bits : ℕ) (packet : Packet) (bound row : ℕ) (rows : List (List ℕ)) (i : ℕ) → i < length rows
+    → bound_in key sketch bits packet bound row rows (suc i)
+    ≡ next_bound (weight_of packet sketch.attr) (bound_in key sketch bits packet bound row rows i)
+    (get_or (row_of rows i) (place_at key sketch bits (row + i) packet) 0)
+bound_more key sketch bits packet bound row [] i within = absurd (omega arith)
+bound_more key sketch bits packet bound row (cells ∷ rows) zero within =
+    let same : row ≡ row + 0 = omega arith in
+    ap (λ r. next_bound (weight_of packet sketch.attr) bound (get_or cells (place_at key sketch bits r packet) 0)) same
+bound_more key sketch bits packet bound row (cells ∷ rows) (suc i) within =
+    let next : ℕ = next_bound (weight_of packet sketch.attr) bound (get_or cells (place_at key sketch bits row packet) 0) in
+    let same : row + 1 + i ≡ row + suc i = omega arith in
+    bound_more key sketch bits packet next (row + 1) rows i (omega arith)
+    ∙ ap (λ r. next_bound (weight_of packet sketch.attr) (bound_in key sketch bits packet next (row + 1) rows i)
+    (get_or (row_of rows i) (place_at key sketch bits r packet) 0)) same
+
+-- ---- all kinds
+
+pub cells_start : CellsStart
+unfolding closed_cells closed_cell chained_cells
+cells_start key sketch bits =
+    ⊎_elim
+    (λ (chained : sketch.kind ≡ SumaxSum).
+    chained_is key sketch bits [] chained
+    ∙ ap (λ n. replicate sketch.rows (replicate (2 ^ bits) n)) (ap start_of (sym chained)))
+    (λ (other : sketch.kind ≡ SumaxSum → ⊥).
+    closed_is key sketch bits [] other
+    ∙ constant_range (map (λ (i : ℕ). gathered sketch.kind []) (range_with_len 0 (2 ^ bits))) 0 sketch.rows
+    ∙ ap (replicate sketch.rows) (constant_range (gathered sketch.kind []) 0 (2 ^ bits) ∙ ap (replicate (2 ^ bits)) (none_gathered sketch.kind)))
+    (cases_chained sketch.kind)
+
+pub cells_step : CellsStep
+cells_step key sketch bits packets packet row few within =
+    ⊎_elim
+    (λ (chained : sketch.kind ≡ SumaxSum).
+    ap (λ cells. row_of cells row) (chained_is key sketch bits (packets ++ packet ∷ []) chained)
+    ∙ chained_step key sketch bits packets packet row chained within
+    ∙ ap (λ cells. row_after key sketch bits row packet (bound_at key sketch bits cells packet row) (row_of cells row))
+    (sym (chained_is key sketch bits packets chained)))
+    (λ (other : sketch.kind ≡ SumaxSum → ⊥).
+    let bound : ℕ = bound_at key sketch bits (cells_of key sketch bits packets) packet row in
+    ap (λ cells. row_of cells row) (closed_is key sketch bits (packets ++ packet ∷ []) other)
+    ∙ closed_step key sketch bits packets packet row bound other few within
+    ∙ ap (λ cells. row_after key sketch bits row packet bound (row_of cells row)) (sym (closed_is key sketch bits packets other)))
+    (cases_chained sketch.kind)
+
+-- there are as many rows as the task has
+pub length-cells : (key : List ℕ) (sketch : Sketch) (bits : ℕ) (packets : List Packet) → length (cells_of key sketch bits packets) ≡ sketch.rows
+unfolding closed_cells
+length-cells key sketch bits packets =
+    ⊎_elim
+    (λ (chained : sketch.kind ≡ SumaxSum). ap length (chained_is key sketch bits packets chained) ∙ length-chained key sketch bits packets)
+    (λ (other : sketch.kind ≡ SumaxSum → ⊥).
+    ap length (closed_is key sketch bits packets other)
+    ∙ length-map-range_with_len (λ i. map (closed_cell key sketch bits packets i) (range_with_len 0 (2 ^ bits))) 0 sketch.rows)
+    (cases_chained sketch.kind)
+
+pub carry_is_bound : CarryIsBound
+unfolding bound_at
+carry_is_bound key sketch bits packets packet row chained within =
+    let before : List (List ℕ) = cells_of key sketch bits packets in
+    let bound : ℕ = bound_in key sketch bits packet cell_max 0 before row in
+    let same : 0 + row ≡ row = omega arith in
+    let next : suc row ≡ row + 1 = omega arith in
+    carried key sketch bits row packet bound (get_or (row_of before row) (place_at key sketch bits row packet) 0) chained
+    ∙ ap (λ r. next_bound (weight_of packet sketch.attr) bound (get_or (row_of before row) (place_at key sketch bits r packet) 0)) (sym same)
+    ∙ sym (bound_more key sketch bits packet cell_max 0 before row (omega (arith, within, length-cells key sketch bits packets)))
+    ∙ ap (bound_in key sketch bits packet cell_max 0 before) next

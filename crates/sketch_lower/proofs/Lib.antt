@@ -1,0 +1,6 @@
+pub mod CellLemmas
+pub mod EntryLemmas
+pub mod FitLemmas
+pub mod LeftLemmas
+pub mod RowLemmas
+pub mod Values
