@@ -1,0 +1,54 @@
+-- How a script is read line by line.
+use Rattle.std.proofs.Common.{◌≡◌, ◌≢◌, ℕ, ◌+◌, ◌==◌, List, Option, None, Some, Result, Ok, Err, IsTrue, false, refl, sym, ◌∙◌, append_assoc}
+use Rattle.std.proofs.lemmas.Bool.{false_from_ne_true}
+use Rattle.std.proofs.lemmas.Slice.Eq.{bytes_eq-Decides}
+use Rattle.texts.specs.Cuts.{front, back, parts, parts_behind}
+use Rattle.texts.proofs.CutLemmas.{parts_first}
+use Rattle.key_mask.specs.Keys.{◌>>=◌, no_lengths}
+use Rattle.sketch_defs.specs.declared.tasks.TaskFault.{TaskFault}
+use Rattle.sketch_defs.specs.Tasks.{Sketch, allows, allows_rows, first_fault, is_no_key}
+use Rattle.task_lang.specs.declared.commands.Command.{Command}
+use Rattle.task_lang.specs.declared.commands.LineFault.{LineFault}
+use Rattle.task_lang.specs.declared.commands.ParseFail.{ParseFail}
+use Rattle.task_lang.specs.declared.commands.ParseFail.TheVariants as fails
+use Rattle.task_lang.specs.declared.commands.ScriptFault.{ScriptFault}
+use Rattle.task_lang.specs.Reading.{Gives, Takes}
+use Rattle.task_lang.specs.Script.{at_line, with_front, script_from, line_in}
+
+some_key : (key : List ℕ) → key ≢ no_lengths → is_no_key key ≡ false
+unfolding is_no_key
+some_key key some = false_from_ne_true _ (λ t. some ((bytes_eq-Decides key no_lengths).0 t))
+
+-- parts that were judged make a task
+pub none_at_fault : (sketch : Sketch) (fault : TaskFault) → IsTrue (allows_rows sketch.kind sketch.rows) → sketch.key ≢ no_lengths
+    → IsTrue (allows sketch.kind sketch.attr) → first_fault sketch ≡ Some fault → ⊥
+none_at_fault sketch fault rows key attr e =
+    let some : is_no_key sketch.key ≡ false = some_key sketch.key key in
+    let none : first_fault sketch ≡ None = rw (rows, some, attr) refl in
+    cc
+
+taken_by : (before after : List Command) (number : ℕ) (done : Unit {0}) (read : Result (List Command) LineFault) (later : Result (List Command) ScriptFault)
+    → Takes (Ok done) number read before after
+    → with_front after later ≡ with_front before (at_line number read >>= λ found. with_front found later)
+taken_by before after number done (Ok found) (Ok later) e = rw (e, append_assoc before found later) refl
+taken_by before after number done (Ok found) (Err fault) e = refl
+taken_by before after number done (Err fault) later e = absurd e
+
+-- one line more
+pub line_taken : (before after : List Command) (number : ℕ) (done : Unit {0}) (text line : List ℕ) (rest : Option (List ℕ))
+    → line ≡ front (λ b. b == 10) text → rest ≡ back (λ b. b == 10) text → Takes (Ok done) number (line_in line) before after
+    → with_front after (script_from (number + 1) (parts_behind 10 rest)) ≡ with_front before (script_from number (parts 10 text))
+line_taken before after number done text line rest p q e =
+    rw (parts_first 10 text, ← p, ← q) (taken_by before after number done (line_in line) (script_from (number + 1) (parts_behind 10 rest)) e)
+
+line_refused : (before : List Command) (number : ℕ) (text line : List ℕ) (fault : ScriptFault)
+    → line ≡ front (λ b. b == 10) text → at_line number (line_in line) ≡ Err fault
+    → with_front before (script_from number (parts 10 text)) ≡ Err fault
+line_refused before number text line fault p e = rw (parts_first 10 text, ← p, e) refl
+
+-- the first line at fault, or want of memory
+pub gives_refused : {A : Type 0} (view : A → List Command) (fail : ParseFail) (before after : List Command) (number : ℕ) (text line : List ℕ)
+    (said : Result (List Command) ScriptFault) → line ≡ front (λ b. b == 10) text → Takes (Err fail) number (line_in line) before after
+    → with_front before (script_from number (parts 10 text)) ≡ said → Gives view (Err fail) said
+gives_refused view (fails.Fault fault) before after number text line said p e same = sym same ∙ line_refused before number text line fault p e
+gives_refused view fails.Memory before after number text line said p e same = tt
