@@ -1,0 +1,7 @@
+pub mod Values
+mod CardLemmas
+mod CellLemmas
+mod DistLemmas
+mod PieceLemmas
+mod QueryLemmas
+mod StandingLemmas

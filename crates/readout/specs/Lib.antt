@@ -1,0 +1,4 @@
+pub mod Judging
+pub mod Lines
+pub mod Standings
+pub mod Stops

@@ -1,0 +1,18 @@
+//! What the tasks of a switch answer, as lines.
+#![tactic(auto)]
+
+mod card;
+mod cells;
+mod dist;
+mod faults;
+mod finding;
+mod lines;
+mod pieces;
+mod query;
+mod readout;
+mod views;
+
+pub use faults::ReadFault;
+pub use readout::Readout;
+pub use std::alloc::AllocError as OutOfMemory;
+pub use views::{Placed, Side, TaskView};

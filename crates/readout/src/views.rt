@@ -1,0 +1,107 @@
+//! What a read-out needs of a switch.
+ghost use Rattle.std.specs.Prelude.{◌≡◌, ℕ, ◌^◌, ◌<◌, List, Option, length, position, IfOk, IfSome};
+ghost use Rattle.outside.specs.Faults.{HasCause};
+ghost use Rattle.outside.specs.Told.{Stays};
+ghost use Rattle.addr_translate.specs.Plans.{Plan, array_count, group_in};
+ghost use Rattle.readout.specs.Standings.{Standing, standing_at, place_at, is_named, block_of, HasSide, IsFit, IsShaped, register_at};
+
+use addr_translate::{Region, Shape};
+use group_keys::KeyUse;
+use key_mask::Mask;
+use reg_file::{DeviceFault, RegFile};
+use sketch_defs::{Name, Task};
+
+/// The partitions that a task counts in, or those that a resize froze.
+#[derive(Clone, Copy, Debug, PartialEq, Eq)]
+pub enum Side {
+    Live,
+    Frozen,
+}
+
+/// Where a row of a task stands.
+#[derive(Clone, Copy, Debug, PartialEq, Eq)]
+pub struct Placed {
+    pub array: u32,
+    pub region: Region,
+    pub keys: KeyUse,
+    pub frozen: Option<Region>,
+}
+
+/// The tasks of a switch, in order of their addition, with their places.
+pub trait TaskView {
+    ghost plan: { Self → Plan };
+
+    ghost standings: { Self → List Standing };
+
+    ghost masks: { Self → ℕ → ℕ → Option (List ℕ) };
+
+    ghost free: { Self → ℕ → ℕ };
+
+    ghost most: { Self → ℕ → ℕ };
+
+    ghost rows: { Self → ℕ → ℕ };
+
+    fn shape(&self) -> Shape
+        ensures { result ≡ plan self.now };
+
+    /// The number of live tasks.
+    fn count(&self) -> usize
+        ensures { result ≡ length (standings self.now) };
+
+    /// The place of the live task of this name in the list.
+    fn find(&self, name: &Name) -> Option<usize>
+        ensures { result ≡ position (is_named name.now) (standings self.now) };
+
+    /// A task, with its present size.
+    fn task(&self, at: usize) -> &Task
+        requires { at < length (standings self.now) }
+        ensures { result.now ≡ (standing_at (standings self.now) at).task };
+
+    fn placed(&self, at: usize, row: u32) -> Placed
+        requires task { at < length (standings self.now) }
+        requires row { row < length (standing_at (standings self.now) at).places }
+        ensures { result ≡ place_at (standing_at (standings self.now) at) row };
+
+    /// The mask of a hash unit; none where it is free.
+    fn unit(&self, group: u32, unit: u32) -> Option<Mask>
+        requires group { group < length (plan self.now).groups }
+        requires unit { unit < (group_in (plan self.now) group).units }
+        ensures { result ≡ masks self.now group unit };
+
+    /// How many registers of the array are in no partition.
+    fn free_count(&self, array: u32) -> u32
+        requires { array < array_count (plan self.now) }
+        ensures { result ≡ free self.now array };
+
+    /// How many registers the largest free partition of the array has; 0 where there is none.
+    fn largest(&self, array: u32) -> u32
+        requires { array < array_count (plan self.now) }
+        ensures { result ≡ most self.now array };
+
+    /// How many live rows stand on the array.
+    fn live_rows(&self, array: u32) -> u32
+        requires { array < array_count (plan self.now) }
+        ensures { result ≡ rows self.now array };
+
+    /// The register at this index of a row's partition.
+    fn cell<R: RegFile>(
+        &self,
+        regs: &mut R,
+        at: usize,
+        side: Side,
+        row: u32,
+        index: u32,
+    ) -> Result<u32, DeviceFault>
+        requires fit { IsFit (plan self.now) (standings self.now) }
+        requires shaped { IsShaped (plan self.now) (R.dims regs.old) }
+        requires task { at < length (standings self.now) }
+        requires row { row < length (standing_at (standings self.now) at).places }
+        requires side { HasSide side (standing_at (standings self.now) at) }
+        requires index { index < 2 ^ (block_of side (place_at (standing_at (standings self.now) at) row)).bits }
+        ensures cause { HasCause (R.faults regs.old) (R.faults regs.new) result }
+        ensures dims { R.dims regs.new ≡ R.dims regs.old }
+        ensures cells { Stays (R.cells regs.old) (R.cells regs.new) }
+        ensures value { IfOk result (λ value. IfSome (R.cells regs.new) (λ cells.
+            value ≡ register_at cells side (place_at (standing_at (standings self.now) at) row) index)) }
+        ensures calls { Stays (R.calls regs.old) (R.calls regs.new) };
+}
