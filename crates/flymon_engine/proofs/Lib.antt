@@ -1,11 +1,13 @@
-mod FaultLemmas
-mod FrameLemmas
-mod NameLemmas
-mod OpeningLemmas
-mod PassLemmas
-mod ReadLemmas
-mod ReportLemmas
-mod ScriptLemmas
-mod StepLemmas
-mod TopLemmas
-mod Values
+pub mod CarryLemmas
+pub mod EndLemmas
+pub mod FaultLemmas
+pub mod FrameLemmas
+pub mod LiveLemmas
+pub mod OpenedLemmas
+pub mod OpeningLemmas
+pub mod PassLemmas
+pub mod ReportLemmas
+pub mod ScriptValues
+pub mod StepLemmas
+pub mod TellLemmas
+pub mod ViewLemmas

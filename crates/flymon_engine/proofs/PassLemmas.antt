@@ -1,81 +1,53 @@
 -- One packet more, over plain lists and registers.
-use Rattle.std.proofs.Common.{◌≡◌, ◌≢◌, ℕ, ◌+◌, ◌-◌, ◌^◌, ◌<◌, ◌≤◌, ◌==◌, Bool, refl, true, false, cond, List, [], ◌∷◌, ◌++◌, length, take, drop, map, min, get_or, Option, None, Some, IfSome, sym, ap, ◌∙◌, arith, ⊎_elim, count_by}
+use Rattle.std.proofs.Common.{◌≡◌, ℕ, ◌+◌, ◌-◌, ◌^◌, ◌<◌, ◌≤◌, Bool, refl, true, false, List, [], ◌∷◌, ◌++◌, length, take, drop, min, get_or, replicate, Option, None, Some, IfSome, sym, ap, ◌∙◌, arith, ⊎_elim}
 use Rattle.std.specs.Prelude.{nat_lt, is_some, ◌&&◌, if◌then◌else◌}
+use Rattle.std.specs.List.{flat_map}
+use Rattle.std.proofs.lemmas.Bool.{cases_lt}
+use Rattle.std.proofs.lemmas.Grind.{flat_map-append}
+use Rattle.std.proofs.lemmas.List.{take_all, take_more, length-drop, length-take, get_or-drop, get_or-replicate}
+use Rattle.std.proofs.lemmas.List.Elements.{filter-append}
 use Rattle.capture_read.specs.declared.records.CaptureFault.{CaptureFault}
-use Rattle.std.proofs.lemmas.Bool.{cases_eq, cases_lt}
-use Rattle.std.proofs.lemmas.Bool.Decides.{nat_tests}
-use Rattle.std.proofs.lemmas.List.{take_all, take_more, map-append, length-drop, length-take, get_or-drop}
-use Rattle.std.proofs.lemmas.List.Sums.{sum_by_push}
-use Rattle.outside.specs.Told.{Told}
-use Rattle.stateful_ops.specs.declared.ops.Op.TheVariants.{CondAdd}
-use Rattle.stateful_ops.specs.Ops.{new_register, register_max}
-use Rattle.reg_file.specs.Registers.{Cells, MakesCall}
-use Rattle.flymon_engine.specs.Cells.{index_at, cell_at, AreCells}
-use Rattle.flymon_engine.specs.Steps.{call_on, most_packets}
+use Rattle.pkt_headers.specs.declared.packets.Packet.{Packet}
+use Rattle.task_filters.specs.Filters.{passes}
+use Rattle.reg_file.specs.Registers.{Cells}
+use Rattle.sketch_defs.specs.Cells.{cells_of, row_of}
+use Rattle.sketch_lower.specs.Operations.{start_of}
+use Rattle.sketch_lower.proofs.CellLemmas.{cells_start}
+use Rattle.flymon_engine.specs.Script.{Job}
+use Rattle.flymon_engine.specs.Cells.{AreCells}
+use Rattle.flymon_engine.specs.Live.{HoldStart}
+use Rattle.flymon_engine.specs.Steps.{calls_on, matched}
 
--- a conditional add of one counts on, and stops where a register does
-one_more : (n : ℕ) → new_register (CondAdd 1 register_max) (min register_max n) ≡ min register_max (n + 1)
-one_more n = grind (arith, nat_tests)
-
-cell_here : (key : List ℕ) (bits : ℕ) (past : List (List ℕ)) (vector : List ℕ) (j : ℕ) → index_at key bits vector ≡ j
-    → new_register (CondAdd 1 register_max) (cell_at key bits past j) ≡ cell_at key bits (past ++ vector ∷ []) j
-unfolding cell_at
-cell_here key bits past vector j here =
-    let test : (index_at key bits vector == j) ≡ true = grind (arith, nat_tests) in
-    one_more (count_by (λ v. index_at key bits v == j) past)
-    ∙ ap (λ n. min register_max n) (sym (sum_by_push (λ v. cond (index_at key bits v == j) 1 0) past vector ∙ ap (λ b. count_by (λ v. index_at key bits v == j) past + cond b 1 0) test))
-
-cell_elsewhere : (key : List ℕ) (bits : ℕ) (past : List (List ℕ)) (vector : List ℕ) (j : ℕ) → index_at key bits vector ≢ j
-    → cell_at key bits past j ≡ cell_at key bits (past ++ vector ∷ []) j
-unfolding cell_at
-cell_elsewhere key bits past vector j there =
-    let test : (index_at key bits vector == j) ≡ false = grind (arith, nat_tests) in
-    let more : count_by (λ v. index_at key bits v == j) (past ++ vector ∷ []) ≡ count_by (λ v. index_at key bits v == j) past + 0 =
-    sum_by_push (λ v. cond (index_at key bits v == j) 1 0) past vector ∙ ap (λ b. count_by (λ v. index_at key bits v == j) past + cond b 1 0) test in
-    ap (λ n. min register_max n) (omega (arith, more))
-
-cells_more : (key : List ℕ) (bits : ℕ) (past : List (List ℕ)) (vector : List ℕ) (answer : ℕ) (old new : Cells)
-    → MakesCall 0 (index_at key bits vector) (CondAdd 1 register_max) answer old new
-    → AreCells key bits past old → AreCells key bits (past ++ vector ∷ []) new
-cells_more key bits past vector answer old new made cells j small =
-    ⊎_elim
-    (λ (here : index_at key bits vector ≡ j).
-    ap (new 0) (sym here) ∙ (made.here ∙ (ap (λ i. new_register (CondAdd 1 register_max) (old 0 i)) here
-    ∙ (ap (new_register (CondAdd 1 register_max)) (cells j small) ∙ cell_here key bits past vector j here))))
-    (λ (there : index_at key bits vector ≢ j).
-    made.others j (λ e. there (sym e)) ∙ (cells j small ∙ cell_elsewhere key bits past vector j there))
-    (cases_eq (index_at key bits vector) j)
-
-pub counted_told : (key : List ℕ) (bits : ℕ) (vector : List ℕ) (answer : ℕ) (a b : Option Cells)
-    → Told (MakesCall 0 (index_at key bits vector) (CondAdd 1 register_max) answer) a b
-    → (past : List (List ℕ)) → IfSome a (AreCells key bits past) → IfSome b (AreCells key bits (past ++ vector ∷ []))
-counted_told key bits vector answer a None made past cells = tt
-counted_told key bits vector answer None (Some new) made past cells = absurd made
-counted_told key bits vector answer (Some old) (Some new) made past cells = cells_more key bits past vector answer old new made cells
-
-pub take_one_more : (packets : List (List ℕ)) (at : ℕ) (vector : List ℕ) → at < length packets → vector ≡ get_or packets at vector
+pub take_one_more : (packets : List Packet) (at : ℕ) (vector : Packet) → at < length packets → vector ≡ get_or packets at vector
     → take (at + 1) packets ≡ take at packets ++ vector ∷ []
 take_one_more packets at vector inside is = take_more packets at vector inside ∙ ap (λ v. take at packets ++ v ∷ []) (sym is)
 
-pub calls_one_more : (key : List ℕ) (bits : ℕ) (packets : List (List ℕ)) (from at : ℕ) (vector : List ℕ)
+pub matched_more : (job : Job) (packets : List Packet) (at : ℕ) (vector : Packet) → at < length packets → vector ≡ get_or packets at vector
+    → matched job (take (at + 1) packets) ≡ matched job (take at packets) ++ matched job (vector ∷ [])
+matched_more job packets at vector inside is =
+    ap (matched job) (take_one_more packets at vector inside is)
+    ∙ filter-append (λ (packet : Packet). passes job.task.filter packet.vec) (take at packets) (vector ∷ [])
+
+pub calls_one_more : (key : List ℕ) (job : Job) (packets : List Packet) (from at : ℕ) (vector : Packet)
     → from ≤ at → at < length packets → vector ≡ get_or packets at vector
-    → map (call_on key bits) (take (at - from) (drop from packets)) ++ call_on key bits vector ∷ []
-    ≡ map (call_on key bits) (take (at + 1 - from) (drop from packets))
-calls_one_more key bits packets from at vector low high is =
+    → flat_map (calls_on key job) (matched job (take (at - from) (drop from packets))) ++ flat_map (calls_on key job) (matched job (vector ∷ []))
+    ≡ flat_map (calls_on key job) (matched job (take (at + 1 - from) (drop from packets)))
+calls_one_more key job packets from at vector low high is =
     let next : at + 1 - from ≡ (at - from) + 1 = omega arith in
     let inside : at - from < length (drop from packets) = omega (arith, length-drop from packets) in
     let place : from + (at - from) ≡ at = omega arith in
-    let item : get_or (drop from packets) (at - from) vector ≡ vector =
-    get_or-drop from packets (at - from) vector ∙ (ap (λ i. get_or packets i vector) place ∙ sym is) in
-    rw next (rw (take_more (drop from packets) (at - from) vector inside, item)
-    (sym (map-append (call_on key bits) (take (at - from) (drop from packets)) (vector ∷ []))))
+    let item : vector ≡ get_or (drop from packets) (at - from) vector =
+    sym (get_or-drop from packets (at - from) vector ∙ (ap (λ i. get_or packets i vector) place ∙ sym is)) in
+    rw next
+    (sym (ap (flat_map (calls_on key job)) (matched_more job (drop from packets) (at - from) vector inside item)
+    ∙ flat_map-append (calls_on key job) (matched job (take (at - from) (drop from packets))) (matched job (vector ∷ []))))
 
--- what `run` takes of the packets that are left, by their number
-pub taken_count : (packets : List (List ℕ)) (taken count : ℕ) → count ≡ min (length packets - taken) most_packets
-    → count ≡ length (take most_packets (drop taken packets))
-taken_count packets taken count is = omega (arith, length-take most_packets (drop taken packets), length-drop taken packets)
+-- what a command takes of the packets that are left, by their number
+pub taken_count : (packets : List Packet) (taken count asked : ℕ) → count ≡ min (length packets - taken) asked
+    → count ≡ length (take asked (drop taken packets))
+taken_count packets taken count asked is = omega (arith, length-take asked (drop taken packets), length-drop taken packets)
 
-pub take_length : (n : ℕ) (xs : List (List ℕ)) → take (length (take n xs)) xs ≡ take n xs
+pub take_length : (n : ℕ) (xs : List Packet) → take (length (take n xs)) xs ≡ take n xs
 take_length n xs =
     ⊎_elim
     (λ (short : n < length xs).
@@ -84,17 +56,24 @@ take_length n xs =
     let whole : length xs ≤ length (take n xs) = omega (arith, length-take n xs) in take_all (length (take n xs)) xs whole ∙ sym (take_all n xs long))
     (cases_lt n (length xs))
 
-pub taken_packets : (packets : List (List ℕ)) (taken count : ℕ) → count ≡ length (take most_packets (drop taken packets))
-    → take (taken + count - taken) (drop taken packets) ≡ take most_packets (drop taken packets)
-taken_packets packets taken count is =
+pub taken_packets : (packets : List Packet) (taken count asked : ℕ) → count ≡ length (take asked (drop taken packets))
+    → take (taken + count - taken) (drop taken packets) ≡ take asked (drop taken packets)
+taken_packets packets taken count asked is =
     let same : taken + count - taken ≡ count = omega arith in
-    rw (same, is) (take_length most_packets (drop taken packets))
+    rw (same, is) (take_length asked (drop taken packets))
 
 -- registers that hold the start value are the cells before any packet
-pub cells_start : (a : Option Cells) (key : List ℕ) (bits : ℕ) → IfSome a (λ cells. (j : ℕ) → j < 2 ^ bits → cells 0 j ≡ 0) → IfSome a (AreCells key bits [])
-unfolding cell_at
-cells_start None key bits zero = tt
-cells_start (Some cells) key bits zero = λ j small. zero j small
+start_cell : (key : List ℕ) (job : Job) (row index : ℕ) → row < job.task.rows → index < 2 ^ job.bits
+    → start_of job.task.kind ≡ get_or (row_of (cells_of key job.task job.bits []) row) index 0
+start_cell key job row index inside small =
+    let zeros : List ℕ = replicate (2 ^ job.bits) (start_of job.task.kind) in
+    sym (ap (λ rows. get_or (row_of rows row) index 0) (cells_start key job.task job.bits)
+    ∙ (ap (λ l. get_or l index 0) (get_or-replicate job.task.rows row zeros [] inside)
+    ∙ get_or-replicate (2 ^ job.bits) index (start_of job.task.kind) 0 small))
+
+pub cells_begin : (key : List ℕ) (job : Job) (a : Option Cells) → IfSome a (HoldStart job job.task.rows) → IfSome a (AreCells key job [])
+cells_begin key job None start = tt
+cells_begin key job (Some cells) start = λ row index inside small. start row index inside small ∙ start_cell key job row index inside small
 
 pub if_told : {P : Type 0} (a : Option Cells) → P → IfSome a (λ _. P)
 if_told None p = tt
@@ -114,7 +93,7 @@ no_damage None few is = refl
 no_damage (Some fault) true is = cc
 no_damage (Some fault) false is = refl
 
-pub not_met : (fault : Option CaptureFault) (packets : List (List ℕ)) (taken : ℕ)
-    → (if is_some fault && nat_lt (length packets - taken) most_packets then fault else None) ≡ None
-    → (is_some fault && nat_lt (length (drop taken packets)) most_packets) ≡ false
-not_met fault packets taken is = rw (length-drop taken packets) (no_damage fault (nat_lt (length packets - taken) most_packets) is)
+pub not_met : (fault : Option CaptureFault) (packets : List Packet) (taken asked : ℕ)
+    → (if is_some fault && nat_lt (length packets - taken) asked then fault else None) ≡ None
+    → (is_some fault && nat_lt (length (drop taken packets)) asked) ≡ false
+not_met fault packets taken asked is = rw (length-drop taken packets) (no_damage fault (nat_lt (length packets - taken) asked) is)

@@ -1,25 +1,31 @@
--- One row of a Count-Min sketch over an array of its own: its cells, by the packets that it counted.
-use Rattle.std.specs.Prelude.{◌≡◌, ℕ, ◌^◌, ◌<◌, ◌==◌, min, List, [], ◌∷◌, count_by}
-use Rattle.key_mask.specs.declared.fields.Field.TheVariants.{SrcIp}
-use Rattle.key_mask.specs.Bytes.{and_bytes}
-use Rattle.key_mask.specs.Masks.{lengths_of, mask_bytes_of}
-use Rattle.hash_units.specs.Toeplitz.{hash_of, row_hash_of}
-use Rattle.addr_translate.specs.Blocks.{index_of}
-use Rattle.stateful_ops.specs.Ops.{register_max}
+-- Where the task stands, and what its registers hold.
+use Rattle.std.specs.Prelude.{◌≡◌, ℕ, ◌^◌, ◌<◌, List, map, slice_index, None}
+use Rattle.std.specs.List.{range_with_len}
+use Rattle.addr_translate.specs.Plans.{Plan, equal_plan}
+use Rattle.group_keys.specs.declared.uses.KeyUse.TheVariants.{Single}
+use Rattle.pkt_headers.specs.declared.packets.Packet.{Packet}
 use Rattle.reg_file.specs.Registers.{Cells}
+use Rattle.sketch_defs.specs.Cells.{cells_of, row_of}
+use Rattle.readout.specs.declared.views.Placed.{Placed}
+use Rattle.readout.specs.Standings.{Standing}
+use Rattle.flymon_engine.specs.Script.{Job}
 
--- the key of the task: the whole source address
-abbrev pub source_lengths : List ℕ
-source_lengths = lengths_of ((SrcIp, 32) ∷ [])
+-- 3 groups of 3 arrays of 1,024 registers, with 3 hash units each
+abbrev pub default_plan : Plan
+default_plan = equal_plan 3 (record { cmus = 3; units = 3; bits = 10 })
 
--- the cell of a packet: the top bits of the hash of its source address
-unfoldable pub index_at : List ℕ → ℕ → List ℕ → ℕ
-index_at key bits vector = index_of (row_hash_of (hash_of key (and_bytes vector (mask_bytes_of source_lengths))) 0) bits
+-- the registers of an array
+abbrev pub array_size : ℕ
+array_size = 1024
 
--- how many of the packets came to the cell, as far as a register counts
-unfoldable pub cell_at : List ℕ → ℕ → List (List ℕ) → ℕ → ℕ
-cell_at key bits packets j = min register_max (count_by (λ vector. index_at key bits vector == j) packets)
+-- a row stands on the array of its number, in the lowest registers, and is served by the first unit of its group
+abbrev pub placed_at : Job → ℕ → Placed
+placed_at job row = record { array = row; region = record { base = 0; bits = job.bits }; keys = Single 0; frozen = None }
 
--- the registers at the head of array 0 are the cells
-abbrev pub AreCells : List ℕ → ℕ → List (List ℕ) → Cells → Type 0
-AreCells key bits packets registers = (j : ℕ) → j < 2 ^ bits → registers 0 j ≡ cell_at key bits packets j
+unfoldable pub standing_of : Job → Standing
+standing_of job = record { task = job.task; places = map (placed_at job) (range_with_len 0 job.task.rows) }
+
+-- the registers of each row are its cells after these packets
+abbrev pub AreCells : List ℕ → Job → List Packet → Cells → Type 0
+AreCells key job packets registers = (row index : ℕ) → row < job.task.rows → index < 2 ^ job.bits
+    → registers row index ≡ slice_index (row_of (cells_of key job.task job.bits packets) row) index

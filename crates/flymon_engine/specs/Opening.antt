@@ -9,6 +9,7 @@ use Rattle.flymon_engine.specs.declared.stop.Stop.TheVariants as stops
 
 -- a fault has its cause, and names the slot of the last failed call
 abbrev pub HasInputCause : ℕ → ℕ → ℕ → Stop → Type 0
+HasInputCause before now last (stops.Script fault) = Unit {0}
 HasInputCause before now last (stops.Capture fault) = Unit {0}
 HasInputCause before now last (stops.Input slot) = Rose before now × (last ≡ slot)
 HasInputCause before now last stops.Usage = Unit {0}
@@ -19,6 +20,7 @@ HasInputCause before now last stops.Memory = Unit {0}
 
 -- all that a slot's reading can stop with
 abbrev pub IsReadStop : ℕ → Stop → Type 0
+IsReadStop number (stops.Script fault) = ⊥
 IsReadStop number (stops.Capture fault) = ⊥
 IsReadStop number (stops.Input slot) = slot ≡ number
 IsReadStop number stops.Memory = Unit {0}
@@ -27,8 +29,9 @@ IsReadStop number stops.Unbuilt = ⊥
 IsReadStop number stops.Output = ⊥
 IsReadStop number stops.Device = ⊥
 
--- the same, or that the bytes have not the form
+-- the same, or that the script is at fault or not built
 abbrev pub IsJudgeStop : ℕ → Stop → Type 0
+IsJudgeStop number (stops.Script fault) = Unit {0}
 IsJudgeStop number (stops.Capture fault) = ⊥
 IsJudgeStop number (stops.Input slot) = slot ≡ number
 IsJudgeStop number stops.Memory = Unit {0}
@@ -39,6 +42,7 @@ IsJudgeStop number stops.Device = ⊥
 
 -- all that the reading of the capture can stop with
 abbrev pub IsCaptureStop : Stop → Type 0
+IsCaptureStop (stops.Script fault) = ⊥
 IsCaptureStop (stops.Capture fault) = Unit {0}
 IsCaptureStop (stops.Input slot) = slot ≡ 2
 IsCaptureStop stops.Memory = Unit {0}
@@ -49,6 +53,7 @@ IsCaptureStop stops.Device = ⊥
 
 -- all that the reading of the script and the capture can stop with
 abbrev pub IsFileStop : Stop → Type 0
+IsFileStop (stops.Script fault) = Unit {0}
 IsFileStop (stops.Capture fault) = Unit {0}
 IsFileStop (stops.Input slot) = (1 ≤ slot) × (slot ≤ 2)
 IsFileStop stops.Memory = Unit {0}
@@ -63,6 +68,7 @@ IsWithin limit slot = slot.attached ≡ true → IfSome slot.tape (λ tape. tape
 
 -- a fault left the slot within its limit
 abbrev pub StopsWithin : ℕ → Slot → Stop → Type 0
+StopsWithin limit slot (stops.Script fault) = Unit {0}
 StopsWithin limit slot (stops.Capture fault) = Unit {0}
 StopsWithin limit slot (stops.Input number) = IsWithin limit slot
 StopsWithin limit slot stops.Usage = Unit {0}
@@ -75,6 +81,7 @@ StopsWithin limit slot stops.Memory = Unit {0}
 abbrev pub KeepsStrays : List ℕ → Option (List (List ℕ)) → ℕ → ℕ → Option Stop → Type 0
 KeepsStrays name names before now (Some (stops.Input slot)) =
     IfSome names (λ there. list_any (bytes_eq name) there ≡ true → now ≡ before)
+KeepsStrays name names before now (Some (stops.Script fault)) = IfSome names (λ there. now ≡ before)
 KeepsStrays name names before now (Some (stops.Capture fault)) = IfSome names (λ there. now ≡ before)
 KeepsStrays name names before now None = IfSome names (λ there. now ≡ before)
 KeepsStrays name names before now (Some stops.Usage) = IfSome names (λ there. now ≡ before)

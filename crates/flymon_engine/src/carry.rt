@@ -1,60 +1,61 @@
 //! The commands, carried out in turn over registers and output.
-ghost use Rattle.std.specs.Prelude.{◌≡◌, ℕ, List, [], ◌∷◌, ◌++◌, ◌+◌, ◌-◌, ◌^◌, ◌<◌, ◌≤◌, length, map, take, drop, ◌&&◌, nat_lt, is_some, None, if◌then◌else◌, IfOk, IfErr, IfSome, OnOk, OnErr};
+ghost use Rattle.std.specs.Prelude.{◌≡◌, ℕ, List, [], ◌∷◌, ◌++◌, ◌+◌, ◌-◌, ◌^◌, ◌<◌, ◌≤◌, length, take, drop, ◌&&◌, nat_lt, true, is_some, None, if◌then◌else◌, IfOk, IfErr, IfSome, OnOk, OnErr};
+ghost use Rattle.std.specs.List.{flat_map, list_all};
 ghost use Rattle.outside.specs.Told.{Stays, Grows};
-ghost use Rattle.outside.specs.Sent.{CameInPart, CameInFront};
-ghost use Rattle.stateful_ops.specs.Ops.{register_max};
-ghost use Rattle.flymon_engine.specs.Script.{Job};
-ghost use Rattle.flymon_engine.specs.Cells.{AreCells};
-ghost use Rattle.flymon_engine.specs.Lines.{added_line, packets_line, read_lines};
-ghost use Rattle.flymon_engine.specs.Carrying.{IsToldBefore, IsFaultOf, HasCarryCause, MeetsAs, SendsBy, CallsBy, LaysBy, FaultsBy};
-ghost use Rattle.flymon_engine.specs.Steps.{call_on, calls_of, most_packets, start, state_at, meets, written, state_from, calls_from, text_from, fault_from, calls_all, text_of, counted, fault_met, taken_by};
-ghost use Rattle.flymon_engine.specs.Seen.{job_at, script_at};
+ghost use Rattle.outside.specs.Sent.{CameInPart};
+ghost use Rattle.readout.specs.Standings.{IsShaped};
+ghost use Rattle.flymon_engine.specs.Script.{is_served};
+ghost use Rattle.flymon_engine.specs.Cells.{AreCells, default_plan};
+ghost use Rattle.flymon_engine.specs.Lines.{added_line, packets_line};
+ghost use Rattle.flymon_engine.specs.Carrying.{IsToldBefore, HasCause, MeetsAs, SendsBy, CallsBy, LaysBy, FaultsBy};
+ghost use Rattle.flymon_engine.specs.Live.{job_at, script_at, HoldStart};
+ghost use Rattle.flymon_engine.specs.Steps.{matched, calls_on, calls_of, asked_for, taken_by, most_packets, start, state_at, meets, written, state_from, calls_from, text_from, fault_from, calls_all, text_of, counted, fault_met};
 
 use crate::frames::Frames;
 use crate::lines::{line_added, line_packets, send};
-use crate::readout::{query, read_out};
-use crate::row::Row;
-use crate::session::Command;
-use crate::stop::Stop;
-use crate::task::Name;
+use crate::stop::Halt;
+use crate::task::LiveTask;
+use crate::telling::tell;
 use capture_read::CaptureFault;
 use fm_io::Sink;
-use key_mask::KeyVec;
+use pkt_headers::Packet;
+use readout::Readout;
 use reg_file::RegFile;
-use stateful_ops::Op;
+use task_lang::Command;
 
-/// The whole script: the task is added, and then each command carried out in turn.
+/// The whole script: the task is added, and then each command behind it carried out in turn.
 pub(crate) fn carry_all<R: RegFile, O: Sink>(
-    name: &Name,
-    row: &Row,
+    live: &LiveTask,
     commands: &[Command],
     frames: &Frames,
+    reader: &mut Readout,
     regs: &mut R,
     out: &mut O,
-) -> Result<(), Stop>
-    requires array { 0 < (R.dims regs.old).arrays }
-    requires room { 2 ^ row.now.bits ≤ 2 ^ (R.dims regs.old).bits }
+) -> Result<(), Halt>
+    requires shaped { IsShaped default_plan (R.dims regs.old) }
+    requires room { live.now.bits ≤ reader.old }
+    requires served { list_all is_served commands.now ≡ true }
     ensures later { O.faults out.old ≤ O.faults out.new }
     ensures regs_later { R.faults regs.old ≤ R.faults regs.new }
-    ensures cause { IfErr result (HasCarryCause (O.faults out.old) (O.faults out.new) (R.faults regs.old) (R.faults regs.new) frames.now.fault) }
-    ensures cells { LaysBy row.now.key row.now.bits
-        (counted (script_at name.now row.now.bits commands.now) frames.now.packets.items frames.now.fault) result (R.cells regs.new) }
+    ensures cause { IfErr result (HasCause (O.faults out.old) (O.faults out.new) (R.faults regs.old) (R.faults regs.new) frames.now.fault) }
+    ensures cells { LaysBy live.now.key (job_at live.now)
+        (counted (script_at live.now commands.now) frames.now.packets.items frames.now.fault) result (R.cells regs.new) }
     ensures calls { CallsBy (R.calls regs.old)
-        (calls_all row.now.key (script_at name.now row.now.bits commands.now) frames.now.packets.items frames.now.fault) result (R.calls regs.new) }
+        (calls_all live.now.key (script_at live.now commands.now) frames.now.packets.items frames.now.fault) result (R.calls regs.new) }
     ensures sent { IfSome (R.cells regs.new) (λ _. SendsBy (O.sent out.old)
-        (text_of row.now.key (script_at name.now row.now.bits commands.now) frames.now.packets.items frames.now.fault) result (O.sent out.new)) }
-    ensures fault { FaultsBy (fault_met (script_at name.now row.now.bits commands.now) frames.now.packets.items frames.now.fault) result }
+        (text_of live.now.key (script_at live.now commands.now) frames.now.packets.items frames.now.fault) result (O.sent out.new)) }
+    ensures fault { FaultsBy (fault_met (script_at live.now commands.now) frames.now.packets.items frames.now.fault) result }
 {
-    match add(name, row, regs, out) {
+    match add(live, regs, out) {
         Ok(()) => {}
-        Err(stop) => return Err(stop),
+        Err(halt) => return Err(halt),
     }
     carry_commands(
-        name,
-        row,
+        live,
         commands,
         &frames.packets,
         frames.fault,
+        reader,
         regs,
         out,
     )
@@ -62,33 +63,34 @@ pub(crate) fn carry_all<R: RegFile, O: Sink>(
 
 /// The commands behind the task's first line, over cells that hold its start value.
 fn carry_commands<R: RegFile, O: Sink>(
-    name: &Name,
-    row: &Row,
+    live: &LiveTask,
     commands: &[Command],
-    packets: &[KeyVec],
+    packets: &[Packet],
     fault: Option<CaptureFault>,
+    reader: &mut Readout,
     regs: &mut R,
     out: &mut O,
-) -> Result<(), Stop>
-    requires array { 0 < (R.dims regs.old).arrays }
-    requires room { 2 ^ row.now.bits ≤ 2 ^ (R.dims regs.old).bits }
-    requires cells { IfSome (R.cells regs.old) (AreCells row.now.key row.now.bits []) }
+) -> Result<(), Halt>
+    requires shaped { IsShaped default_plan (R.dims regs.old) }
+    requires room { live.now.bits ≤ reader.old }
+    requires served { list_all is_served commands.now ≡ true }
+    requires cells { IfSome (R.cells regs.old) (AreCells live.now.key (job_at live.now) []) }
     ensures later { O.faults out.old ≤ O.faults out.new }
     ensures regs_later { R.faults regs.old ≤ R.faults regs.new }
-    ensures cause { IfErr result (HasCarryCause (O.faults out.old) (O.faults out.new) (R.faults regs.old) (R.faults regs.new) fault) }
+    ensures cause { IfErr result (HasCause (O.faults out.old) (O.faults out.new) (R.faults regs.old) (R.faults regs.new) fault) }
     ensures told { IsToldBefore (R.cells regs.old) (R.cells regs.new) }
-    ensures cells { LaysBy row.now.key row.now.bits (state_from fault (start packets.now) commands.now).past result (R.cells regs.new) }
+    ensures cells { LaysBy live.now.key (job_at live.now) (state_from (job_at live.now) fault (start packets.now) commands.now).past result (R.cells regs.new) }
     ensures calls { CallsBy (R.calls regs.old)
-        (calls_from row.now.key (job_at name.now row.now.bits) fault (start packets.now) commands.now) result (R.calls regs.new) }
+        (calls_from live.now.key (job_at live.now) fault (start packets.now) commands.now) result (R.calls regs.new) }
     ensures sent { IfSome (R.cells regs.new) (λ _. SendsBy (O.sent out.old)
-        (text_from row.now.key (job_at name.now row.now.bits) fault (start packets.now) commands.now) result (O.sent out.new)) }
-    ensures fault { FaultsBy (fault_from fault (start packets.now) commands.now) result }
+        (text_from live.now.key (job_at live.now) fault (start packets.now) commands.now) result (O.sent out.new)) }
+    ensures fault { FaultsBy (fault_from (job_at live.now) fault (start packets.now) commands.now) result }
 {
     let mut taken = 0;
     'commands: for command in commands {
-        match carry_one(name, row, *command, packets, fault, taken, regs, out) {
+        match carry_one(live, command, packets, fault, taken, reader, regs, out) {
             Ok(next) => taken = next,
-            Err(stop) => return Err(stop),
+            Err(halt) => return Err(halt),
         }
     }
     Ok(())
@@ -96,149 +98,142 @@ fn carry_commands<R: RegFile, O: Sink>(
 
 /// Puts the start value into the task's cells, and says that the task was added.
 #[tactic(auto, using(outside::proofs::SentLemmas::none_in_part))]
-fn add<R: RegFile, O: Sink>(name: &Name, row: &Row, regs: &mut R, out: &mut O) -> Result<(), Stop>
-    requires array { 0 < (R.dims regs.old).arrays }
-    requires room { 2 ^ row.now.bits ≤ 2 ^ (R.dims regs.old).bits }
+fn add<R: RegFile, O: Sink>(live: &LiveTask, regs: &mut R, out: &mut O) -> Result<(), Halt>
+    requires { IsShaped default_plan (R.dims regs.old) }
     ensures later { O.faults out.old ≤ O.faults out.new }
     ensures regs_later { R.faults regs.old ≤ R.faults regs.new }
-    ensures cause { IfErr result (IsFaultOf (O.faults out.old) (O.faults out.new) (R.faults regs.old) (R.faults regs.new)) }
+    ensures cause { IfErr result (HasCause (O.faults out.old) (O.faults out.new) (R.faults regs.old) (R.faults regs.new) None) }
     ensures dims { R.dims regs.new ≡ R.dims regs.old }
     ensures told { IsToldBefore (R.cells regs.old) (R.cells regs.new) }
-    ensures cells { OnOk result (IfSome (R.cells regs.new) (λ cells. (j : ℕ) → j < 2 ^ row.now.bits → cells 0 j ≡ 0)) }
+    ensures cells { OnOk result (IfSome (R.cells regs.new) (HoldStart (job_at live.now) live.now.task.rows)) }
     ensures calls { Stays (R.calls regs.old) (R.calls regs.new) }
-    ensures sent { OnOk result (Grows (O.sent out.old) (added_line name.now.bytes) (O.sent out.new)) }
-    ensures part { OnErr result (CameInPart (O.sent out.old) (added_line name.now.bytes) (O.sent out.new)) }
+    ensures sent { OnOk result (Grows (O.sent out.old) (added_line live.now.task.name) (O.sent out.new)) }
+    ensures part { OnErr result (CameInPart (O.sent out.old) (added_line live.now.task.name) (O.sent out.new)) }
 {
-    if regs.fill(0, 0, row.size(), 0).is_err() {
-        return Err(Stop::Device);
+    if live.fill(regs).is_err() {
+        return Err(Halt::Device);
     }
-    send(out, &line_added(name))
+    send(out, &line_added(live.task.name()))
 }
 
-/// Passes the packets from one place to another, each as one operation on its cell.
-fn pass<R: RegFile>(row: &Row, packets: &[KeyVec], from: usize, to: usize, regs: &mut R)
+/// Passes the packets from one place to another, each with its operations.
+fn pass<R: RegFile>(live: &LiveTask, packets: &[Packet], from: usize, to: usize, regs: &mut R)
     requires from { from ≤ to }
     requires to { to ≤ length packets.now }
-    requires array { 0 < (R.dims regs.old).arrays }
-    requires room { 2 ^ row.now.bits ≤ 2 ^ (R.dims regs.old).bits }
-    requires cells { IfSome (R.cells regs.old) (AreCells row.now.key row.now.bits (take from packets.now)) }
+    requires shaped { IsShaped default_plan (R.dims regs.old) }
+    requires cells { IfSome (R.cells regs.old) (AreCells live.now.key (job_at live.now) (matched (job_at live.now) (take from packets.now))) }
     ensures faults { R.faults regs.new ≡ R.faults regs.old }
     ensures dims { R.dims regs.new ≡ R.dims regs.old }
     ensures told { IsToldBefore (R.cells regs.old) (R.cells regs.new) }
-    ensures cells { IfSome (R.cells regs.new) (AreCells row.now.key row.now.bits (take to packets.now)) }
-    ensures calls { Grows (R.calls regs.old) (map (call_on row.now.key row.now.bits) (take (to - from) (drop from packets.now))) (R.calls regs.new) }
+    ensures cells { IfSome (R.cells regs.new) (AreCells live.now.key (job_at live.now) (matched (job_at live.now) (take to packets.now))) }
+    ensures calls { Grows (R.calls regs.old)
+        (flat_map (calls_on live.now.key (job_at live.now)) (matched (job_at live.now) (take (to - from) (drop from packets.now)))) (R.calls regs.new) }
 {
     'packets: for at in from..to {
-        count(row, &packets[at], regs);
+        live.count(&packets[at], regs);
     }
-}
-
-/// One packet more in its cell.
-#[tactic(auto, using(crate::proofs::PassLemmas::counted_told))]
-fn count<R: RegFile>(row: &Row, vector: &KeyVec, regs: &mut R)
-    requires array { 0 < (R.dims regs.old).arrays }
-    requires room { 2 ^ row.now.bits ≤ 2 ^ (R.dims regs.old).bits }
-    ensures faults { R.faults regs.new ≡ R.faults regs.old }
-    ensures dims { R.dims regs.new ≡ R.dims regs.old }
-    ensures told { IsToldBefore (R.cells regs.old) (R.cells regs.new) }
-    ensures cells { (past : List (List ℕ)) → IfSome (R.cells regs.old) (AreCells row.now.key row.now.bits past)
-        → IfSome (R.cells regs.new) (AreCells row.now.key row.now.bits (past ++ vector.now ∷ [])) }
-    ensures calls { Grows (R.calls regs.old) (call_on row.now.key row.now.bits vector.now ∷ []) (R.calls regs.new) }
-{
-    let counted = Op::CondAdd {
-        p1: 1,
-        p2: u32::MAX,
-    };
-    regs.rmw(0, row.index(vector), counted);
 }
 
 /// The most packets that `run` takes.
 const MOST_PACKETS: usize = 4_294_967_295;
 
-/// The fault of the capture, where fewer packets are left than `run` asks for.
+/// The fault of the capture, where fewer packets are left than a command asks for.
 #[tactic(auto, using(std::proofs::lemmas::Bool::Decides::nat_tests))]
-fn damage(fault: Option<CaptureFault>, left: usize) -> Option<CaptureFault>
-    ensures { result ≡ (if is_some fault && nat_lt left most_packets then fault else None) }
+fn damage(fault: Option<CaptureFault>, left: usize, asked: usize) -> Option<CaptureFault>
+    ensures { result ≡ (if is_some fault && nat_lt left asked then fault else None) }
 {
-    if left < MOST_PACKETS { fault } else { None }
+    if left < asked { fault } else { None }
 }
 
-/// Passes the packets that are left, at most so many, and writes how many they were, unless the capture is damaged first.
-fn run_packets<R: RegFile, O: Sink>(
-    row: &Row,
-    packets: &[KeyVec],
+/// Passes the packets that are left, at most so many, and writes how many they were, unless the
+/// capture is damaged first.
+fn take_packets<R: RegFile, O: Sink>(
+    live: &LiveTask,
+    asked: usize,
+    packets: &[Packet],
     fault: Option<CaptureFault>,
     taken: usize,
     regs: &mut R,
     out: &mut O,
-) -> Result<usize, Stop>
+) -> Result<usize, Halt>
     requires taken { taken ≤ length packets.now }
-    requires array { 0 < (R.dims regs.old).arrays }
-    requires room { 2 ^ row.now.bits ≤ 2 ^ (R.dims regs.old).bits }
-    requires cells { IfSome (R.cells regs.old) (AreCells row.now.key row.now.bits (take taken packets.now)) }
+    requires shaped { IsShaped default_plan (R.dims regs.old) }
+    requires cells { IfSome (R.cells regs.old) (AreCells live.now.key (job_at live.now) (matched (job_at live.now) (take taken packets.now))) }
     ensures later { O.faults out.old ≤ O.faults out.new }
-    ensures cause { IfErr result (HasCarryCause (O.faults out.old) (O.faults out.new) 0 0 fault) }
+    ensures cause { IfErr result (HasCause (O.faults out.old) (O.faults out.new) 0 0 fault) }
     ensures faults { R.faults regs.new ≡ R.faults regs.old }
     ensures dims { R.dims regs.new ≡ R.dims regs.old }
     ensures told { IsToldBefore (R.cells regs.old) (R.cells regs.new) }
-    ensures met { MeetsAs (meets (state_at packets.now taken) fault Command.Run) result }
-    ensures next { IfOk result (λ next. next ≡ taken + length (take most_packets (drop taken packets.now))) }
+    ensures met { MeetsAs (is_some fault && nat_lt (length (drop taken packets.now)) asked) result }
+    ensures next { IfOk result (λ next. next ≡ taken + length (take asked (drop taken packets.now))) }
     ensures inside { IfOk result (λ next. next ≤ length packets.now) }
-    ensures cells { LaysBy row.now.key row.now.bits (take (taken + length (take most_packets (drop taken packets.now))) packets.now) result (R.cells regs.new) }
-    ensures calls { Grows (R.calls regs.old) (map (call_on row.now.key row.now.bits) (take most_packets (drop taken packets.now))) (R.calls regs.new) }
+    ensures cells { LaysBy live.now.key (job_at live.now)
+        (matched (job_at live.now) (take (taken + length (take asked (drop taken packets.now))) packets.now)) result (R.cells regs.new) }
+    ensures calls { Grows (R.calls regs.old)
+        (flat_map (calls_on live.now.key (job_at live.now)) (matched (job_at live.now) (take asked (drop taken packets.now)))) (R.calls regs.new) }
     ensures sent { SendsBy (O.sent out.old)
-        (if meets (state_at packets.now taken) fault Command.Run then []
-        else packets_line (length (take most_packets (drop taken packets.now)))) result (O.sent out.new) }
+        (if is_some fault && nat_lt (length (drop taken packets.now)) asked then []
+        else packets_line (length (take asked (drop taken packets.now)))) result (O.sent out.new) }
 {
     let left = packets.len() - taken;
-    let count = left.min(MOST_PACKETS);
-    pass(row, packets, taken, taken + count, regs);
-    match damage(fault, left) {
-        Some(fault) => Err(Stop::Capture(fault)),
+    let count = left.min(asked);
+    pass(live, packets, taken, taken + count, regs);
+    match damage(fault, left, asked) {
+        Some(fault) => Err(Halt::Damage(fault)),
         None => match send(out, &line_packets(count)) {
             Ok(()) => Ok(taken + count),
-            Err(stop) => Err(stop),
+            Err(halt) => Err(halt),
         },
     }
 }
 
 /// One command, by the packets that were taken before it; answers how many are taken behind it.
 fn carry_one<R: RegFile, O: Sink>(
-    name: &Name,
-    row: &Row,
-    command: Command,
-    packets: &[KeyVec],
+    live: &LiveTask,
+    command: &Command,
+    packets: &[Packet],
     fault: Option<CaptureFault>,
     taken: usize,
+    reader: &mut Readout,
     regs: &mut R,
     out: &mut O,
-) -> Result<usize, Stop>
+) -> Result<usize, Halt>
+    requires served { is_served command.now ≡ true }
     requires taken { taken ≤ length packets.now }
-    requires array { 0 < (R.dims regs.old).arrays }
-    requires room { 2 ^ row.now.bits ≤ 2 ^ (R.dims regs.old).bits }
-    requires cells { IfSome (R.cells regs.old) (AreCells row.now.key row.now.bits (take taken packets.now)) }
+    requires shaped { IsShaped default_plan (R.dims regs.old) }
+    requires room { live.now.bits ≤ reader.old }
+    requires cells { IfSome (R.cells regs.old) (AreCells live.now.key (job_at live.now) (matched (job_at live.now) (take taken packets.now))) }
+    ensures room { reader.new ≡ reader.old }
     ensures later { O.faults out.old ≤ O.faults out.new }
     ensures regs_later { R.faults regs.old ≤ R.faults regs.new }
-    ensures cause { IfErr result (HasCarryCause (O.faults out.old) (O.faults out.new) (R.faults regs.old) (R.faults regs.new) fault) }
+    ensures cause { IfErr result (HasCause (O.faults out.old) (O.faults out.new) (R.faults regs.old) (R.faults regs.new) fault) }
     ensures dims { R.dims regs.new ≡ R.dims regs.old }
     ensures told { IsToldBefore (R.cells regs.old) (R.cells regs.new) }
-    ensures met { MeetsAs (meets (state_at packets.now taken) fault command) result }
-    ensures next { IfOk result (λ next. next ≡ taken + length (taken_by (state_at packets.now taken) command)) }
+    ensures met { MeetsAs (meets (state_at (job_at live.now) packets.now taken) fault command.now) result }
+    ensures next { IfOk result (λ next. next ≡ taken + length (taken_by (state_at (job_at live.now) packets.now taken) command.now)) }
     ensures inside { IfOk result (λ next. next ≤ length packets.now) }
-    ensures cells { LaysBy row.now.key row.now.bits (take (taken + length (taken_by (state_at packets.now taken) command)) packets.now) result (R.cells regs.new) }
-    ensures calls { Grows (R.calls regs.old) (calls_of row.now.key (job_at name.now row.now.bits) (state_at packets.now taken) command) (R.calls regs.new) }
+    ensures cells { LaysBy live.now.key (job_at live.now)
+        (matched (job_at live.now) (take (taken + length (taken_by (state_at (job_at live.now) packets.now taken) command.now)) packets.now)) result (R.cells regs.new) }
+    ensures calls { Grows (R.calls regs.old) (calls_of live.now.key (job_at live.now) (state_at (job_at live.now) packets.now taken) command.now) (R.calls regs.new) }
     ensures sent { IfSome (R.cells regs.new) (λ _. SendsBy (O.sent out.old)
-        (written row.now.key (job_at name.now row.now.bits) fault (state_at packets.now taken) command) result (O.sent out.new)) }
+        (written live.now.key (job_at live.now) fault (state_at (job_at live.now) packets.now taken) command.now) result (O.sent out.new)) }
+{
+    match asked_for(command) {
+        Some(asked) => take_packets(live, asked, packets, fault, taken, regs, out),
+        None => match tell(live, command, reader, regs, out) {
+            Ok(()) => Ok(taken),
+            Err(halt) => Err(halt),
+        },
+    }
+}
+
+/// How many packets the command asks for, where it asks for packets.
+fn asked_for(command: &Command) -> Option<usize>
+    ensures { result ≡ asked_for command.now }
 {
     match command {
-        Command::Run => run_packets(row, packets, fault, taken, regs, out),
-        Command::Read => match read_out(name, row.bits, row.size(), regs, out) {
-            Ok(()) => Ok(taken),
-            Err(stop) => Err(stop),
-        },
-        Command::Query(at) => match query(name, row.index(&at), regs, out) {
-            Ok(()) => Ok(taken),
-            Err(stop) => Err(stop),
-        },
+        Command::Packets(count) => Some(*count as usize),
+        Command::Run => Some(MOST_PACKETS),
+        _ => None,
     }
 }

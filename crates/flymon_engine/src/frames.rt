@@ -1,19 +1,18 @@
-//! The packets of a capture, as key vectors.
+//! The packets of a capture.
 ghost use Rattle.std.specs.Prelude.{◌≡◌, IfOk};
 ghost use Rattle.capture_read.specs.Reading.{next_in, after_next, records_in};
-ghost use Rattle.flymon_engine.specs.Frames.{passage_of, vector_by};
+ghost use Rattle.flymon_engine.specs.Frames.{passage_of, packet_by};
 ghost use Rattle.flymon_engine.specs.Seen.{passage_seen};
 
 use capture_read::{Capture, CaptureFault};
 use fm_io::Files;
-use key_mask::KeyVec;
-use pkt_headers::packet_of;
+use pkt_headers::{Packet, packet_of};
 use std::alloc::{AllocError, Global};
 
-/// The key vectors of a capture's packets, and the fault that ends them, if one does.
+/// The packets of a capture, and the fault that ends them, if one does.
 #[derive(Drop)]
 pub(crate) struct Frames {
-    pub packets: Vec<KeyVec>,
+    pub packets: Vec<Packet>,
     pub fault: Option<CaptureFault>,
 }
 
@@ -28,7 +27,7 @@ pub(crate) fn frames_of<F: Files>(
 {
     let mut packets = Vec::new(alloc);
     'records: loop {
-        match next_vector(&mut capture, files) {
+        match next_packet(&mut capture, files) {
             Ok(Some(packet)) => packets.push(packet)?,
             Ok(None) => {
                 return Ok(Frames {
@@ -46,17 +45,17 @@ pub(crate) fn frames_of<F: Files>(
     }
 }
 
-/// The key vector of the next packet.
-fn next_vector<F: Files>(
+/// The next packet.
+fn next_packet<F: Files>(
     capture: &mut Capture,
     files: &mut F,
-) -> Result<Option<KeyVec>, CaptureFault>
-    ensures vector { result ≡ vector_by (next_in capture.old) }
+) -> Result<Option<Packet>, CaptureFault>
+    ensures packet { result ≡ packet_by (next_in capture.old) }
     ensures moved { capture.new ≡ after_next capture.old }
     ensures files { files.new ≡ files.old }
 {
     match capture.next(files) {
-        Ok(Some(frame)) => Ok(Some(packet_of(frame.bytes, frame.len).vec)),
+        Ok(Some(frame)) => Ok(Some(packet_of(frame.bytes, frame.len))),
         Ok(None) => Ok(None),
         Err(fault) => Err(fault),
     }

@@ -1,19 +1,20 @@
 //! A run of `flymon`: from the words of its command line to the bytes that it writes.
 #![tactic(auto)]
 
-mod addresses;
 mod carry;
 mod frames;
 mod lines;
+mod live;
+mod micros;
 mod opening;
-mod readout;
 mod report;
-mod row;
 mod session;
 mod status;
 mod stop;
 mod task;
+mod telling;
 mod top;
+mod view;
 mod words;
 
 pub use status::Status;

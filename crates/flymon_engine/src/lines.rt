@@ -1,18 +1,20 @@
-//! The lines that commands write.
-ghost use Rattle.std.specs.Prelude.{◌≡◌, ◌≤◌, ◌++◌, length, codes, IfErr, OnOk, OnErr};
+//! The lines that commands write, but for those of read-outs.
+ghost use Rattle.std.specs.Prelude.{◌≡◌, ◌≤◌, ◌<◌, ◌++◌, length, codes, ◌+◌, IfErr, OnOk, OnErr, None};
 ghost use Rattle.outside.specs.Told.{Grows};
 ghost use Rattle.outside.specs.Sent.{CameInPart};
-ghost use Rattle.flymon_engine.specs.Carrying.{IsFaultOf};
-ghost use Rattle.flymon_engine.specs.Lines.{added_line, packets_line, size_words, value_words, read_line, query_line, cell_line};
+ghost use Rattle.flymon_engine.specs.Carrying.{HasCause};
+ghost use Rattle.flymon_engine.specs.Lines.{added_line, packets_line, refusal, refused_line};
+ghost use Rattle.flymon_engine.specs.declared.stop.Halt.TheVariants.{Output};
 
-use crate::stop::Stop;
-use crate::task::Name;
+use crate::stop::Halt;
 use fm_io::{Sink, write_whole};
 use itoa::Buffer;
 pub(crate) use key_mask::Line;
+use readout::ReadFault;
+use sketch_defs::Name;
 
 pub(crate) fn line_added(name: &Name) -> Line
-    ensures { result.bytes ≡ added_line name.now.bytes }
+    ensures { result.bytes ≡ added_line name.now }
 {
     let mut line = Line::new();
     line.push_str("added ");
@@ -31,78 +33,45 @@ pub(crate) fn line_packets(count: usize) -> Line
     line
 }
 
-pub(crate) fn line_read(name: &Name, size: u32) -> Line
-    ensures { result.bytes ≡ read_line name.now.bytes size }
+/// The line of a read-out of this word that was refused.
+pub(crate) fn line_refused(word: &str, name: &Name, fault: ReadFault) -> Line
+    requires { length word.now ≤ 10 }
+    ensures { result.bytes ≡ refused_line word.now name.now fault }
 {
     let mut line = Line::new();
-    line.push_str("read ");
+    line.push_str("refused ");
+    line.push_str(word);
+    line.push_str(" ");
     line.push_str(name.as_str());
-    push_size(&mut line, size);
+    line.push_str(" ");
+    line.push_str(refusal(fault));
     line
 }
 
-fn push_size(line: &mut Line, size: u32)
-    requires { length line.old.bytes ≤ 100 }
-    ensures { line.new.bytes ≡ line.old.bytes ++ size_words size }
+/// Why a read-out is refused. A fault of the registers or the output is no refusal.
+fn refusal(fault: ReadFault) -> &'static str
+    ensures text { result.now ≡ refusal fault }
+    ensures short { length result.now ≤ 20 }
 {
-    line.push_str(" rows 1 size ");
-    line.push_str(Buffer::new().format(size));
-    line.push_str(" start 0\n");
-}
-
-/// The line of a cell; none where it is as it started.
-pub(crate) fn line_cell(index: u32, value: u32) -> Line
-    ensures { result.bytes ≡ cell_line index value }
-{
-    let mut line = Line::new();
-    if value == 0 {
-        return line;
+    match fault {
+        ReadFault::Unknown => "unknown\n",
+        ReadFault::NoFrozen => "nothing frozen\n",
+        ReadFault::NoAnswer => "no answer\n",
+        ReadFault::BadKey => "bad key\n",
+        ReadFault::Device | ReadFault::Write => "\n",
     }
-    line.push_str("cell 0 ");
-    line.push_str(Buffer::new().format(index));
-    line.push_str(" ");
-    line.push_str(Buffer::new().format(value));
-    line.push_str("\n");
-    line
-}
-
-pub(crate) fn line_query(name: &Name, value: u32) -> Line
-    ensures { result.bytes ≡ query_line name.now.bytes value }
-{
-    let mut line = Line::new();
-    line.push_str("query ");
-    line.push_str(name.as_str());
-    push_value(&mut line, value);
-    line
-}
-
-fn push_value(line: &mut Line, value: u32)
-    requires { length line.old.bytes ≤ 100 }
-    ensures { line.new.bytes ≡ line.old.bytes ++ value_words value }
-{
-    line.push_str(" ");
-    line.push_str(Buffer::new().format(value));
-    line.push_str("\n");
-}
-
-/// The line that ends a block.
-pub(crate) fn line_end() -> Line
-    ensures { result.bytes ≡ codes "end\n" }
-{
-    let mut line = Line::new();
-    line.push_str("end\n");
-    line
 }
 
 /// Sends a line whole.
-pub(crate) fn send<O: Sink>(out: &mut O, line: &Line) -> Result<(), Stop>
+pub(crate) fn send<O: Sink>(out: &mut O, line: &Line) -> Result<(), Halt>
     ensures later { O.faults out.old ≤ O.faults out.new }
-    ensures cause { IfErr result (IsFaultOf (O.faults out.old) (O.faults out.new) 0 0) }
+    ensures cause { IfErr result (HasCause (O.faults out.old) (O.faults out.new) 0 0 None) }
+    ensures stop { IfErr result (λ halt. halt ≡ Output) }
     ensures sent { OnOk result (Grows (O.sent out.old) line.now.bytes (O.sent out.new)) }
     ensures part { OnErr result (CameInPart (O.sent out.old) line.now.bytes (O.sent out.new)) }
 {
     match write_whole(out, line.as_str().as_bytes()) {
         Ok(()) => Ok(()),
-        Err(_) => Err(Stop::Output),
+        Err(_) => Err(Halt::Output),
     }
 }

@@ -4,19 +4,20 @@ ghost use Rattle.std.specs.Option.{option_and_then};
 ghost use Rattle.fm_io.specs.Slots.{slot_at, OthersStay};
 ghost use Rattle.fm_io.specs.Names.{ShelfStays, told_text};
 ghost use Rattle.flymon_engine.specs.Words.{form_of, texts_of};
-ghost use Rattle.flymon_engine.specs.Script.{session_in};
+ghost use Rattle.flymon_engine.specs.Script.{verdict_in};
 ghost use Rattle.flymon_engine.specs.Frames.{passage_in};
 ghost use Rattle.flymon_engine.specs.Opening.{HasInputCause, IsReadStop, IsJudgeStop, IsCaptureStop, IsFileStop, StopsWithin, KeepsStrays, stop_in};
 ghost use Rattle.flymon_engine.specs.Plan.{plan_told, plan_with, word_for, JudgesAs, ReadsAs, OpensAs, StopsFormed, StopsInPlace};
 ghost use Rattle.flymon_engine.specs.Seen.{script_seen, passage_seen, plan_seen};
 
 use crate::frames::{Frames, frames_of};
-use crate::session::{SCRIPT_LIMIT, Session, session_of};
+use crate::session::Session;
 use crate::stop::Stop;
 use crate::words::{Names, names_of};
 use capture_read::{BeginFail, Capture, CaptureFault};
 use fm_io::{Failed, Files, ReadFail, read_whole};
 use std::alloc::Global;
+use task_lang::{ParseFail, SCRIPT_LIMIT, parse_script};
 
 /// A script that can be carried out, and the packets that it asks for.
 #[derive(Drop)]
@@ -49,7 +50,7 @@ fn open_files<F: Files>(alloc: Global, names: Names<'_>, files: &mut F) -> Resul
     ensures cause { IfErr result (HasInputCause (F.faults files.old) (F.faults files.new) (F.last files.new)) }
     ensures stop { IfErr result IsFileStop }
     ensures plan { OpensAs plan_seen
-        (option_and_then (λ text. plan_with (told_text (F.shelf files.new) (F.slots files.new).capture names.entry.capture.now) (session_in text))
+        (option_and_then (λ text. plan_with (told_text (F.shelf files.new) (F.slots files.new).capture names.entry.capture.now) (verdict_in text))
         (told_text (F.shelf files.new) (F.slots files.new).script names.entry.script.now)) result }
     ensures within { F.last files.new ≡ 1 → IfErr result (StopsWithin SCRIPT_LIMIT (F.slots files.new).script) }
     ensures formed { F.last files.new ≡ 2 → IfErr result (StopsFormed (told_text (F.shelf files.new) (F.slots files.new).script names.entry.script.now)) }
@@ -74,13 +75,16 @@ fn session_from<F: Files>(alloc: Global, files: &mut F, name: &str) -> Result<Se
     ensures within { IfErr result (StopsWithin SCRIPT_LIMIT (F.slots files.new).script) }
     ensures shelf { ShelfStays (F.shelf files.old) (F.shelf files.new) }
     ensures strays { KeepsStrays name.now (F.shelf files.new).names (F.strays files.old) (F.strays files.new) (stop_in result) }
-    ensures text { IfSome (told_text (F.shelf files.new) (F.slots files.new).script name.now) (λ bytes. JudgesAs script_seen (session_in bytes) result) }
+    ensures text { IfSome (told_text (F.shelf files.new) (F.slots files.new).script name.now) (λ bytes. JudgesAs script_seen (verdict_in bytes) result) }
 {
     let script = bytes_of(alloc, files, 1, name, SCRIPT_LIMIT)?;
-    match session_of(alloc, &script) {
-        Ok(Some(session)) => Ok(session),
-        Ok(None) => Err(Stop::Unbuilt),
-        Err(_) => Err(Stop::Memory),
+    match parse_script(alloc, &script) {
+        Ok(commands) => match Session::of(commands) {
+            Some(session) => Ok(session),
+            None => Err(Stop::Unbuilt),
+        },
+        Err(ParseFail::Fault(fault)) => Err(Stop::Script(fault)),
+        Err(ParseFail::Memory) => Err(Stop::Memory),
     }
 }
 

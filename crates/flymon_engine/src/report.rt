@@ -1,12 +1,13 @@
 //! The message of a run that stops.
 ghost use Rattle.std.specs.Prelude.{◌≡◌, ◌≤◌, ◌++◌, length, codes, decimal};
-ghost use Rattle.flymon_engine.specs.Clauses.{message_of, fault_words, file_word, SendsMessage};
+ghost use Rattle.flymon_engine.specs.Clauses.{message_of, fault_words, script_words, line_words, item_words, field_words, file_word, SendsMessage};
 
-use crate::lines::Line;
 use crate::stop::Stop;
 use capture_read::CaptureFault;
 use fm_io::{Sink, write_whole};
 use itoa::Buffer;
+use key_mask::{FieldFault, FieldKind, Line};
+use task_lang::{LineFault, ScriptFault};
 
 /// Sends the one message of a stop. A failed write changes nothing else.
 pub(crate) fn report<E: Sink>(stop: Stop, err: &mut E)
@@ -25,6 +26,10 @@ fn message(stop: Stop) -> Line
             "usage: flymon replay PROFILE SCRIPT CAPTURE | flymon demo SEED COUNT\n",
         ),
         Stop::Unbuilt => line.push_str("not built\n"),
+        Stop::Script(fault) => {
+            line.push_str("bad script line ");
+            push_script(&mut line, fault);
+        }
         Stop::Capture(fault) => {
             line.push_str("bad capture: ");
             push_fault(&mut line, fault);
@@ -38,6 +43,59 @@ fn message(stop: Stop) -> Line
         Stop::Memory => line.push_str("out of memory\n"),
     }
     line
+}
+
+/// The number of a script's line, and what is wrong with it.
+fn push_script(line: &mut Line, fault: ScriptFault)
+    requires { length line.old.bytes ≤ 20 }
+    ensures { line.new.bytes ≡ line.old.bytes ++ script_words fault }
+{
+    line.push_str(Buffer::new().format(fault.line));
+    line.push_str(": ");
+    push_line_fault(line, fault.kind);
+}
+
+fn push_line_fault(line: &mut Line, fault: LineFault)
+    requires { length line.old.bytes ≤ 100 }
+    ensures { line.new.bytes ≡ line.old.bytes ++ line_words fault }
+{
+    match fault {
+        LineFault::TooLong => line.push_str("too long\n"),
+        LineFault::Byte => line.push_str("byte\n"),
+        LineFault::Command => line.push_str("command\n"),
+        LineFault::Words => line.push_str("words\n"),
+        LineFault::Name => line.push_str("name\n"),
+        LineFault::Kind => line.push_str("kind\n"),
+        LineFault::Rows => line.push_str("rows\n"),
+        LineFault::Key(fault) => push_item(line, "key ", fault),
+        LineFault::Attr => line.push_str("attr\n"),
+        LineFault::Filter(fault) => push_item(line, "filter ", fault),
+        LineFault::Size => line.push_str("size\n"),
+        LineFault::Number => line.push_str("number\n"),
+        LineFault::At(fault) => push_item(line, "at ", fault),
+    }
+}
+
+/// What is wrong with an item of a key or a filter, and how many bytes stand before the item.
+fn push_item(line: &mut Line, word: &str, fault: FieldFault)
+    requires room { length line.old.bytes ≤ 100 }
+    requires short { length word.now ≤ 10 }
+    ensures { line.new.bytes ≡ line.old.bytes ++ item_words word.now fault }
+{
+    line.push_str(word);
+    push_number(line, field_words(fault.kind), fault.place as u64);
+}
+
+fn field_words(kind: FieldKind) -> &'static str
+    ensures words { result.now ≡ field_words kind }
+    ensures short { length result.now ≤ 20 }
+{
+    match kind {
+        FieldKind::UnknownField => "unknown field ",
+        FieldKind::RepeatedField => "repeated field ",
+        FieldKind::BadPrefix => "bad prefix ",
+        FieldKind::BadValue => "bad value ",
+    }
 }
 
 /// What is wrong with a capture. A failed read is never told here: it stops a run as an input fault.

@@ -9,6 +9,8 @@ pub enum Status {
     Done,
     /// The words are no form of the command line.
     Usage,
+    /// A line of the script is at fault, or the script is too long.
+    BadScript,
     /// The capture's header is bad, or the next packet that a command asks for is not a whole record.
     BadCapture,
     /// A call on a file failed.
@@ -31,6 +33,7 @@ impl Status {
         match self {
             Status::Done => 0,
             Status::Usage => 2,
+            Status::BadScript => 4,
             Status::BadCapture => 5,
             Status::InputFault => 6,
             Status::OutputFault => 7,

@@ -1,15 +1,24 @@
-//! The task of a script.
-ghost use Rattle.std.specs.Prelude.{◌≤◌};
+//! The live task as the engine keeps it.
+ghost use Rattle.std.specs.Prelude.{◌≡◌, ◌^◌, ◌≤◌, true, None};
+ghost use Rattle.sketch_lower.specs.Lowering.{micro_of};
+ghost use Rattle.flymon_engine.specs.Script.{is_closed};
 
-use arrayvec::ArrayString;
+use hash_units::HashKey;
+use match_table::Micro;
+use sketch_defs::Task;
 
-/// The name of a task: at most 16 bytes.
-pub(crate) type Name = ArrayString<16>;
-
-/// A task of one row of `2^bits` cells.
+/// A task whose row i stands at the head of array i, in `2^bits` registers.
 #[derive(Clone, Copy)]
-pub(crate) struct Task {
-    pub name: Name,
+pub(crate) struct LiveTask {
+    pub key: HashKey,
+    pub task: Task,
     pub bits: u32,
-    ghost fits: { bits ≤ 10 },
+    pub micro: Micro,
+    ghost least: { 5 ≤ bits },
+    ghost most: { bits ≤ 10 },
+    ghost some: { 1 ≤ task.rows },
+    ghost few: { task.rows ≤ 4 },
+    ghost sized: { task.size ≡ 2 ^ bits },
+    ghost closed: { is_closed task.kind ≡ true },
+    ghost lowered: { micro ≡ micro_of task.kind task.attr None },
 }

@@ -4,26 +4,29 @@ ghost use Rattle.outside.specs.Faults.{Rose};
 ghost use Rattle.hash_units.specs.Keys.{standard_key};
 ghost use Rattle.flymon_engine.specs.Words.{form_of, texts_of};
 ghost use Rattle.flymon_engine.specs.Opening.{HasInputCause};
-ghost use Rattle.flymon_engine.specs.Carrying.{IsCarryStop};
+ghost use Rattle.flymon_engine.specs.Endings.{IsCarryStop};
 ghost use Rattle.flymon_engine.specs.Seen.{plan_seen};
 ghost use Rattle.flymon_engine.specs.Plan.{plan_told};
 ghost use Rattle.flymon_engine.specs.Clauses.{status_in, StopsAs, IsVerdict, SendsText, MakesCalls, LaysOut, IsInPlace, KeepsNames, SendsReport};
 
 use crate::carry::carry_all;
+use crate::live::DEFAULT_SHAPE;
 use crate::opening::{Opened, open};
 use crate::report::report;
-use crate::row::Row;
 use crate::status::Status;
-use crate::stop::Stop;
+use crate::stop::{Stop, ending};
+use crate::task::LiveTask;
 use fm_io::{Files, Sink};
 use hash_units::standard;
+use readout::Readout;
 use reg_file::{RegFile, ShapeFail};
 use std::alloc::Global;
 
 /// Carries out what the words of the command line ask for.
 ///
-/// The words are those behind the program's own name. A task of `2^bits` cells stands at the head of array 0
-/// of 9 arrays of 1,024 registers, and its hash is under the standard key. A failed write to `err` changes no status.
+/// The words are those behind the program's own name. The one task of a script has row i at the
+/// head of array i of 9 arrays of 1,024 registers, and its hash is under the standard key. A failed
+/// write to `err` changes no status.
 pub fn run<F: Files, R: RegFile, O: Sink, E: Sink>(
     alloc: Global,
     words: &[String],
@@ -90,11 +93,6 @@ fn execute<F: Files, R: RegFile, O: Sink>(
     }
 }
 
-/// How many arrays a switch has, and the bits of an address in one.
-const ARRAYS: u32 = 9;
-
-const ARRAY_BITS: u32 = 10;
-
 /// Shapes the registers, and carries out the script on them.
 fn carry<R: RegFile, O: Sink>(
     alloc: Global,
@@ -111,19 +109,23 @@ fn carry<R: RegFile, O: Sink>(
     ensures output { status_in result ≡ Status.OutputFault → Rose (O.faults out.old) (O.faults out.new) }
     ensures device { status_in result ≡ Status.DeviceFault → Rose (R.faults regs.old) (R.faults regs.new) }
 {
-    match regs.shape(alloc, ARRAYS, ARRAY_BITS) {
+    let Ok(mut reader) = Readout::new(alloc, DEFAULT_SHAPE.bits) else {
+        return Err(Stop::Memory);
+    };
+    match regs.shape(alloc, DEFAULT_SHAPE.arrays(), DEFAULT_SHAPE.bits) {
         Ok(()) => {}
         Err(ShapeFail::Memory) => return Err(Stop::Memory),
         Err(ShapeFail::Device) => return Err(Stop::Device),
     }
     let session = &opened.session;
-    let row = Row::new(standard(), session.task.bits);
-    carry_all(
-        &session.task.name,
-        &row,
-        &session.commands,
+    let live = LiveTask::new(standard(), session.task, session.bits);
+    let carried = carry_all(
+        &live,
+        session.behind(),
         &opened.frames,
+        &mut reader,
         regs,
         out,
-    )
+    );
+    ending(carried)
 }

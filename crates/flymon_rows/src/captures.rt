@@ -20,9 +20,36 @@ const ETHERNET: &[u8; 14] = b"\x02\x00\x00\x00\x00\x02\x02\x00\x00\x00\x00\x01\x
 /// An IPv4 header to the last byte but one of its source address, 10.0.0.x.
 const TO_SOURCE: &[u8; 15] = b"\x45\x00\x00\x28\x00\x00\x00\x00\x40\x06\x00\x00\x0a\x00\x00";
 
-/// The destination 192.168.1.1, and the TCP header of a SYN from port 1024 to port 80.
-const FROM_DESTINATION: &[u8; 24] =
-    b"\xc0\xa8\x01\x01\x04\x00\x00\x50\x00\x00\x00\x00\x00\x00\x00\x00\x50\x02\x00\x00\x00\x00\x00\x00";
+/// The destination 192.168.1.1, and a TCP header from port 1024 to port 80 as far as its flags.
+const TO_FLAGS: &[u8; 17] = b"\xc0\xa8\x01\x01\x04\x00\x00\x50\x00\x00\x00\x00\x00\x00\x00\x00\x50";
+
+/// The rest of the TCP header.
+const FROM_FLAGS: &[u8; 6] = b"\x00\x00\x00\x00\x00\x00";
+
+/// The flags of a SYN.
+const SYN: u8 = 2;
+
+/// A TCP packet from 10.0.0.`source` to 192.168.1.1, with its length on the wire. 54 bytes of it are captured.
+#[derive(Clone, Copy, Debug)]
+pub(crate) struct Sent {
+    pub source: u8,
+    pub flags: u8,
+    pub length: u32,
+}
+
+/// A SYN from 10.0.0.1.
+pub(crate) const FIRST: Sent = Sent {
+    source: 1,
+    flags: SYN,
+    length: 54,
+};
+
+/// A SYN from 10.0.0.2.
+pub(crate) const SECOND: Sent = Sent {
+    source: 2,
+    flags: SYN,
+    length: 54,
+};
 
 /// A capture of one packet from 10.0.0.x for each x of `sources`, 70 bytes a record.
 pub(crate) fn capture_of(alloc: Global, sources: &[u8]) -> Result<Vec<u8>, AllocError> {
@@ -34,6 +61,17 @@ pub(crate) fn big_capture_of(alloc: Global, sources: &[u8]) -> Result<Vec<u8>, A
     capture_with(alloc, BIG_HEADER, BIG_RECORD, sources)
 }
 
+/// A little-endian capture of these packets.
+pub(crate) fn capture_of_packets(alloc: Global, packets: &[Sent]) -> Result<Vec<u8>, AllocError> {
+    let mut bytes = Vec::from_slice(alloc, HEADER)?;
+    'packets: for packet in packets {
+        bytes.extend_from_slice(&RECORD[..12])?;
+        bytes.extend_from_slice(&packet.length.to_le_bytes())?;
+        push_frame(&mut bytes, packet.source, packet.flags)?;
+    }
+    Ok(bytes)
+}
+
 fn capture_with(
     alloc: Global,
     header: &[u8],
@@ -43,10 +81,17 @@ fn capture_with(
     let mut bytes = Vec::from_slice(alloc, header)?;
     'packets: for source in sources {
         bytes.extend_from_slice(record)?;
-        bytes.extend_from_slice(ETHERNET)?;
-        bytes.extend_from_slice(TO_SOURCE)?;
-        bytes.push(*source)?;
-        bytes.extend_from_slice(FROM_DESTINATION)?;
+        push_frame(&mut bytes, *source, SYN)?;
     }
     Ok(bytes)
+}
+
+/// Appends the frame of a packet from 10.0.0.`source`.
+fn push_frame(bytes: &mut Vec<u8>, source: u8, flags: u8) -> Result<(), AllocError> {
+    bytes.extend_from_slice(ETHERNET)?;
+    bytes.extend_from_slice(TO_SOURCE)?;
+    bytes.push(source)?;
+    bytes.extend_from_slice(TO_FLAGS)?;
+    bytes.push(flags)?;
+    bytes.extend_from_slice(FROM_FLAGS)
 }

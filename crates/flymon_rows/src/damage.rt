@@ -6,33 +6,23 @@ use reg_file::{Call, RamFile, TraceFile};
 use stateful_ops::Op;
 use std::test::Fail;
 
-const ADD: &[u8; 59] = b"add hot cms 1 key=src_ip attr=packets filter=all memory=32\n";
-
 const ADD_AND_RUN: &[u8; 63] = b"add hot cms 1 key=src_ip attr=packets filter=all memory=32\nrun\n";
 
-/// A script that reads before its packets pass.
-const READ_AND_RUN: &[u8; 72] =
-    b"add hot cms 1 key=src_ip attr=packets filter=all memory=32\nread hot\nrun\n";
+/// Of a capture of three packets, whose records begin at 24, 94 and 164: how many bytes are kept, a place and the
+/// byte that is put there, then the output and the message.
+const DAMAGES: [(usize, usize, u8, &str, &str); 6] = [
+    (200, 0, 0xd4, "added hot\n", "short record at 164"),
+    (179, 0, 0xd4, "added hot\n", "short record at 164"),
+    (234, 104, 4, "added hot\n", "big record at 94 length 262198"),
+    (23, 0, 0xd4, "", "short header"),
+    (234, 0, 0xd5, "", "bad magic"),
+    (234, 20, 105, "", "bad link 105"),
+];
 
 #[test]
 fn stops_at_the_damage(rt: HostRuntime) -> Result<(), Fail> {
     let alloc = rt.alloc();
-    // Of a capture of three packets, whose records begin at 24, 94 and 164: how many bytes are kept, a place and the
-    // byte that is put there, then the output and the message.
-    for (kept, at, byte, out, message) in [
-        (
-            200usize,
-            0usize,
-            0xd4u8,
-            "added hot\n",
-            "short record at 164",
-        ),
-        (179, 0, 0xd4, "added hot\n", "short record at 164"),
-        (234, 104, 4, "added hot\n", "big record at 94 length 262198"),
-        (23, 0, 0xd4, "", "short header"),
-        (234, 0, 0xd5, "", "bad magic"),
-        (234, 20, 105, "", "bad link 105"),
-    ] {
+    for (kept, at, byte, out, message) in DAMAGES {
         let mut capture = capture_of(alloc, &[1, 1, 1])?;
         if let Some(place) = capture.get_mut(at) {
             *place = byte;
@@ -56,26 +46,70 @@ fn stops_at_the_damage(rt: HostRuntime) -> Result<(), Fail> {
     Ok(())
 }
 
+/// Scripts, how many bytes are kept of a capture of three packets, and how the run ends.
+const ENDINGS: [(&str, usize, Status, &str, &str); 7] = [
+    (
+        "add hot cms 1 key=src_ip attr=packets filter=all memory=32\npackets 2\nrun\n",
+        200,
+        Status::BadCapture,
+        "added hot\npackets 2\n",
+        "bad capture: short record at 164\n",
+    ),
+    (
+        "add hot cms 1 key=src_ip attr=packets filter=all memory=32\npackets 2\n",
+        200,
+        Status::Done,
+        "added hot\npackets 2\n",
+        "",
+    ),
+    (
+        "add hot cms 1 key=src_ip attr=packets filter=all memory=32\npackets 2\nrun\n",
+        23,
+        Status::BadCapture,
+        "",
+        "bad capture: short header\n",
+    ),
+    (
+        "add hot cms 1 key=src_ip attr=packets filter=all memory=32\npackets 3\nread hot\n",
+        200,
+        Status::BadCapture,
+        "added hot\n",
+        "bad capture: short record at 164\n",
+    ),
+    (
+        "add hot cms 1 key=src_ip attr=packets filter=all memory=32\npackets 2\npackets 0\nquery hot src_ip:10.0.0.1\n",
+        200,
+        Status::Done,
+        "added hot\npackets 2\npackets 0\nquery hot 2\n",
+        "",
+    ),
+    (
+        "add hot cms 1 key=src_ip attr=packets filter=all memory=32\n",
+        200,
+        Status::Done,
+        "added hot\n",
+        "",
+    ),
+    (
+        "add hot cms 1 key=src_ip attr=packets filter=all memory=32\nread hot\nrun\n",
+        200,
+        Status::BadCapture,
+        "added hot\nread hot rows 1 size 32 start 0\nend\n",
+        "bad capture: short record at 164\n",
+    ),
+];
+
 #[test]
 fn writes_up_to_the_damage(rt: HostRuntime) -> Result<(), Fail> {
     let alloc = rt.alloc();
-    let damage = "bad capture: short record at 164\n";
-    for (script, status, out, message) in [
-        (ADD.as_slice(), Status::Done, "added hot\n", ""),
-        (
-            READ_AND_RUN,
-            Status::BadCapture,
-            "added hot\nread hot rows 1 size 32 start 0\nend\n",
-            damage,
-        ),
-    ] {
+    for (script, kept, status, out, message) in ENDINGS {
         let mut capture = capture_of(alloc, &[1, 1, 1])?;
-        capture.truncate(200);
-        let files = session_files(alloc, script, capture)?;
+        capture.truncate(kept);
+        let files = session_files(alloc, script.as_bytes(), capture)?;
         let ending = run_over(alloc, WORDS, files, &mut RamFile::new(), LIMITS)?;
         expect_ending(
             &rt,
-            &script.len(),
+            &script,
             &ending,
             status,
             out.as_bytes(),

@@ -6,44 +6,9 @@ use reg_file::{RamFile, TraceFile};
 use std::test::Fail;
 
 #[test]
-fn answers_words_it_cannot_run(rt: HostRuntime) -> Result<(), Fail> {
-    let alloc = rt.alloc();
-    for (words, status, message) in [
-        (
-            "replay a b",
-            Status::Usage,
-            "usage: flymon replay PROFILE SCRIPT CAPTURE | flymon demo SEED COUNT\n",
-        ),
-        ("replay x S C", Status::Unbuilt, "not built\n"),
-        ("replay - X C", Status::InputFault, "input fault: script\n"),
-        ("replay - S X", Status::InputFault, "input fault: capture\n"),
-    ] {
-        let files = session_files(alloc, SCRIPT, capture_of(alloc, &[1])?)?;
-        let ending = run_over(alloc, words, files, &mut RamFile::new(), LIMITS)?;
-        expect_ending(&rt, &words, &ending, status, b"", message.as_bytes());
-    }
-    Ok(())
-}
-
-#[test]
-fn refuses_other_scripts(rt: HostRuntime) -> Result<(), Fail> {
-    let alloc = rt.alloc();
-    // How many bytes are kept of a capture of one packet, which has 94: the script is judged first.
-    for kept in [94usize, 23] {
-        let mut capture = capture_of(alloc, &[1])?;
-        capture.truncate(kept);
-        let files = session_files(alloc, b"rum\n", capture)?;
-        let ending = run_over(alloc, WORDS, files, &mut RamFile::new(), LIMITS)?;
-        expect_ending(&rt, &kept, &ending, Status::Unbuilt, b"", b"not built\n");
-    }
-    assert_eq!(rt; Status::Unbuilt.code(), 10);
-    Ok(())
-}
-
-#[test]
 fn stops_where_the_output_is_full(rt: HostRuntime) -> Result<(), Fail> {
     let alloc = rt.alloc();
-    let files = session_files(alloc, SCRIPT, capture_of(alloc, &[1, 1, 2, 1])?)?;
+    let files = session_files(alloc, SCRIPT.as_bytes(), capture_of(alloc, &[1, 1, 2, 1])?)?;
     let limits = Limits { piece: 7, room: 6 };
     let ending = run_over(alloc, WORDS, files, &mut RamFile::new(), limits)?;
     expect_ending(
@@ -57,21 +22,38 @@ fn stops_where_the_output_is_full(rt: HostRuntime) -> Result<(), Fail> {
     Ok(())
 }
 
+/// What the run of `SCRIPT` writes before its last line.
+const BEFORE_QUERY: &str =
+    "added hot\npackets 4\nread hot rows 1 size 32 start 0\ncell 0 1 1\ncell 0 18 3\nend\n";
+
+const THREE_ROWS: &str = "add t cms 3 key=src_ip attr=packets filter=all memory=32\nrun\n";
+
+const FOUR_ROWS: &str = "add t cms 4 key=src_ip attr=packets filter=all memory=32\nrun\n\
+query t src_ip:10.0.0.1\nquery t src_ip:10.0.0.1\n";
+
+const DIST: &str = "add m mrac 1 key=src_ip attr=packets filter=all memory=32\ndist m\ndist m\n";
+
+const CARD: &str = "add h hll 1 key=src_ip attr=flow filter=all memory=32\ncard h\ncard h\n";
+
+/// Scripts, the call that fails, and what was written before it. Call 1 shapes the registers, `add` fills each row by
+/// one call, `read`, `dist` and `card` read each cell by one call, and `query` one cell of each row.
+const DEVICE: [(&str, u64, &str); 7] = [
+    (SCRIPT, 1, ""),
+    (SCRIPT, 2, ""),
+    (SCRIPT, 35, BEFORE_QUERY),
+    (THREE_ROWS, 4, ""),
+    (FOUR_ROWS, 10, "added t\npackets 4\nquery t 3\n"),
+    (DIST, 35, "added m\ndist m\nsize 0 cells 32\nend\n"),
+    (CARD, 35, "added h\ncard h zeros 32 z 274877906944 raw 22\n"),
+];
+
 #[test]
 fn stops_where_the_device_fails(rt: HostRuntime) -> Result<(), Fail> {
     let alloc = rt.alloc();
-    // The call that fails, and what was written before it: call 1 shapes the registers, call 2 fills the cells,
-    // 32 calls read them one by one, and call 35 reads the one that is asked for.
-    for (failing, out) in [
-        (1u64, ""),
-        (2, ""),
-        (
-            35,
-            "added hot\npackets 4\nread hot rows 1 size 32 start 0\ncell 0 1 1\ncell 0 18 3\nend\n",
-        ),
-    ] {
-        let files = session_files(alloc, SCRIPT, capture_of(alloc, &[1, 1, 2, 1])?)?;
-        let mut regs = TraceFile::new(alloc, 4, vec![in alloc; failing]?)?;
+    for (script, failing, out) in DEVICE {
+        let capture = capture_of(alloc, &[1, 1, 2, 1])?;
+        let files = session_files(alloc, script.as_bytes(), capture)?;
+        let mut regs = TraceFile::new(alloc, 16, vec![in alloc; failing]?)?;
         let ending = run_over(alloc, WORDS, files, &mut regs, LIMITS)?;
         expect_ending(
             &rt,
@@ -81,6 +63,27 @@ fn stops_where_the_device_fails(rt: HostRuntime) -> Result<(), Fail> {
             out.as_bytes(),
             b"device fault\n",
         );
+    }
+    assert_eq!(rt; Status::DeviceFault.code(), 8);
+    Ok(())
+}
+
+#[test]
+fn makes_no_further_call(rt: HostRuntime) -> Result<(), Fail> {
+    let alloc = rt.alloc();
+    // The call after the last one of the run would fail.
+    for (script, failing) in [
+        (SCRIPT, 36u64),
+        (THREE_ROWS, 5),
+        (FOUR_ROWS, 14),
+        (DIST, 67),
+        (CARD, 67),
+    ] {
+        let capture = capture_of(alloc, &[1, 1, 2, 1])?;
+        let files = session_files(alloc, script.as_bytes(), capture)?;
+        let mut regs = TraceFile::new(alloc, 16, vec![in alloc; failing]?)?;
+        let ending = run_over(alloc, WORDS, files, &mut regs, LIMITS)?;
+        assert_eq!(rt; ending.status, Status::Done, "at {script:?}");
     }
     Ok(())
 }

@@ -2,7 +2,13 @@
 #![tactic(auto)]
 
 #[cfg(test)]
+mod answers;
+#[cfg(test)]
+mod calls;
+#[cfg(test)]
 mod captures;
+#[cfg(test)]
+mod commands;
 #[cfg(test)]
 mod damage;
 #[cfg(test)]
@@ -11,5 +17,7 @@ mod faults;
 mod rows;
 #[cfg(test)]
 mod runs;
+#[cfg(test)]
+mod scripts;
 #[cfg(test)]
 mod system;

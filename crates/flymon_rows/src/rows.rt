@@ -2,15 +2,14 @@
 use crate::captures::{big_capture_of, capture_of};
 use crate::runs::{LIMITS, Limits, ROOM, SCRIPT, WORDS, expect_ending, run_over, session_files};
 use flymon_engine::Status;
-use reg_file::{Call, RamFile, TraceFile};
-use stateful_ops::Op;
+use reg_file::RamFile;
 use std::test::Fail;
 
 #[test]
 fn counts_packets_by_source(rt: HostRuntime) -> Result<(), Fail> {
     let alloc = rt.alloc();
     for piece in [1usize, 7, 4096] {
-        let files = session_files(alloc, SCRIPT, capture_of(alloc, &[1, 1, 2, 1])?)?;
+        let files = session_files(alloc, SCRIPT.as_bytes(), capture_of(alloc, &[1, 1, 2, 1])?)?;
         let limits = Limits { piece, room: ROOM };
         let ending = run_over(alloc, WORDS, files, &mut RamFile::new(), limits)?;
         expect_ending(
@@ -28,7 +27,11 @@ fn counts_packets_by_source(rt: HostRuntime) -> Result<(), Fail> {
 #[test]
 fn counts_packets_of_a_big_endian_capture(rt: HostRuntime) -> Result<(), Fail> {
     let alloc = rt.alloc();
-    let files = session_files(alloc, SCRIPT, big_capture_of(alloc, &[1, 1, 2, 1])?)?;
+    let files = session_files(
+        alloc,
+        SCRIPT.as_bytes(),
+        big_capture_of(alloc, &[1, 1, 2, 1])?,
+    )?;
     let ending = run_over(alloc, WORDS, files, &mut RamFile::new(), LIMITS)?;
     expect_ending(
         &rt,
@@ -56,7 +59,7 @@ fn counts_any_frame(rt: HostRuntime) -> Result<(), Fail> {
     if let Some(place) = capture.get_mut(22) {
         *place = 1;
     }
-    let files = session_files(alloc, SCRIPT, capture)?;
+    let files = session_files(alloc, SCRIPT.as_bytes(), capture)?;
     let ending = run_over(alloc, WORDS, files, &mut RamFile::new(), LIMITS)?;
     // A frame without an IPv4 header has no source, and the hash of nothing is 0.
     expect_ending(
@@ -73,7 +76,7 @@ fn counts_any_frame(rt: HostRuntime) -> Result<(), Fail> {
 #[test]
 fn counts_no_packet(rt: HostRuntime) -> Result<(), Fail> {
     let alloc = rt.alloc();
-    let files = session_files(alloc, SCRIPT, capture_of(alloc, &[])?)?;
+    let files = session_files(alloc, SCRIPT.as_bytes(), capture_of(alloc, &[])?)?;
     let ending = run_over(alloc, WORDS, files, &mut RamFile::new(), LIMITS)?;
     expect_ending(
         &rt,
@@ -83,21 +86,5 @@ fn counts_no_packet(rt: HostRuntime) -> Result<(), Fail> {
         b"added hot\npackets 0\nread hot rows 1 size 32 start 0\nend\nquery hot 0\n",
         b"",
     );
-    Ok(())
-}
-
-#[test]
-fn asks_one_operation_a_packet(rt: HostRuntime) -> Result<(), Fail> {
-    let alloc = rt.alloc();
-    let files = session_files(alloc, SCRIPT, capture_of(alloc, &[1, 1, 2, 1])?)?;
-    let mut regs = TraceFile::new(alloc, 4, Vec::new(alloc))?;
-    let ending = run_over(alloc, WORDS, files, &mut regs, LIMITS)?;
-    assert_eq!(rt; ending.status, Status::Done);
-    let op = Op::CondAdd {
-        p1: 1,
-        p2: 4_294_967_295,
-    };
-    let calls = [18, 18, 1, 18].map(|addr| Call { array: 0, addr, op });
-    assert_eq!(rt; regs.calls(), Some(calls.as_slice()));
     Ok(())
 }

@@ -1,16 +1,17 @@
 //! Runs of the program over objects in memory.
 ghost use Rattle.std.specs.Prelude.{◌<◌};
 
+use crate::captures::{Sent, capture_of_packets};
 use flymon_engine::{Status, run};
 use fm_io::{MemFile, MemFiles, MemSink};
-use reg_file::RegFile;
+use reg_file::{RamFile, RegFile};
 use std::alloc::{AllocError, Global};
 use std::fmt::Debug;
 use std::process::Abort;
 
 /// A script that counts packets by their source, and reads the counters whole and one of them alone.
-pub(crate) const SCRIPT: &[u8; 98] =
-    b"add hot cms 1 key=src_ip attr=packets filter=all memory=32\nrun\nread hot\nquery hot src_ip:10.0.0.1\n";
+pub(crate) const SCRIPT: &str =
+    "add hot cms 1 key=src_ip attr=packets filter=all memory=32\nrun\nread hot\nquery hot src_ip:10.0.0.1\n";
 
 /// Room for all that a run of these tests writes.
 pub(crate) const ROOM: usize = 4096;
@@ -96,4 +97,21 @@ pub(crate) fn expect_ending(
     assert_eq!(rt; ending.status, status, "at {case:?}");
     assert_eq!(rt; ending.out.sent(), out, "at {case:?}");
     assert_eq!(rt; ending.err.sent(), err, "at {case:?}");
+}
+
+/// A script, the packets of its capture, and what the run writes.
+pub(crate) type Session = (&'static str, &'static [Sent], &'static str);
+
+/// Aborts unless the script is carried out to its end over a capture of these packets, and writes this.
+pub(crate) fn expect_done(
+    rt: &impl Abort,
+    alloc: Global,
+    session: Session,
+) -> Result<(), AllocError> {
+    let (script, packets, out) = session;
+    let capture = capture_of_packets(alloc, packets)?;
+    let files = session_files(alloc, script.as_bytes(), capture)?;
+    let ending = run_over(alloc, WORDS, files, &mut RamFile::new(), LIMITS)?;
+    expect_ending(rt, &script, &ending, Status::Done, out.as_bytes(), b"");
+    Ok(())
 }

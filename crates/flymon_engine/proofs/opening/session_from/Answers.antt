@@ -1,17 +1,23 @@
-use Rattle.std.proofs.Common.{◌∙◌, ap, Some, None, sym}
+use Rattle.std.proofs.Common.{Some, None}
 use Rattle.fm_io.specs.Names.{told_text}
-use Rattle.flymon_engine.specs.Seen.{script_seen, script_of}
-use Rattle.flymon_engine.proofs.OpeningLemmas.{session_told}
+use Rattle.flymon_engine.specs.Seen.{script_seen}
+use Rattle.flymon_engine.proofs.OpeningLemmas.{fault_told, script_told}
 use Rattle.flymon_engine.proofs.opening.session_from.Goals as goal
 
-pub returns-in-Ok-Some-clause-text : goal.returns-in-Ok-Some-clause-text
-returns-in-Ok-Some-clause-text g c =
+pub returns-in-Some-clause-text : goal.returns-in-Some-clause-text
+returns-in-Some-clause-text g c =
     let f = g.F.Files in
-    session_told (told_text (f.shelf c.bytes_of.new.files) (f.slots c.bytes_of.new.files).script c.args.name.now) c.in_ok-script.script.items
-    (Some (script_seen c.in-Ok-Some.session)) c.in_ok-script.ensures.text (rw c.deref.ensures.value at (sym (ap script_of c.in-Ok-Some.field-0-is) ∙ c.in-Ok-Some.ensures))
+    script_told (told_text (f.shelf c.bytes_of.new.files) (f.slots c.bytes_of.new.files).script c.args.name.now) c.in_ok-script.script.items
+    c.in-Ok.commands.items (Some (script_seen c.in-Some.session)) c.in_ok-script.ensures.text (rw c.deref.ensures.value at c.in-Ok.ensures) c.in-Some.ensures
 
-pub returns-in-Ok-None-clause-text : goal.returns-in-Ok-None-clause-text
-returns-in-Ok-None-clause-text g c =
+pub returns-in-Ok-clause-text : goal.returns-in-Ok-clause-text
+returns-in-Ok-clause-text g c =
     let f = g.F.Files in
-    session_told (told_text (f.shelf c.bytes_of.new.files) (f.slots c.bytes_of.new.files).script c.args.name.now) c.in_ok-script.script.items
-    None c.in_ok-script.ensures.text (rw c.deref.ensures.value at (sym (ap script_of c.in-Ok-None.field-0-is) ∙ c.in-Ok-None.ensures))
+    script_told (told_text (f.shelf c.bytes_of.new.files) (f.slots c.bytes_of.new.files).script c.args.name.now) c.in_ok-script.script.items
+    c.in-Ok.commands.items None c.in_ok-script.ensures.text (rw c.deref.ensures.value at c.in-Ok.ensures) c.in-None.ensures
+
+pub returns-in-Err-Fault-clause-text : goal.returns-in-Err-Fault-clause-text
+returns-in-Err-Fault-clause-text g c =
+    let f = g.F.Files in
+    fault_told (told_text (f.shelf c.bytes_of.new.files) (f.slots c.bytes_of.new.files).script c.args.name.now) c.in_ok-script.script.items
+    c.in-Err-Fault.fault c.in_ok-script.ensures.text (rw (c.deref.ensures.value, c.in-Err-Fault.field-0-is) at c.in-Err-Fault.ensures)

@@ -1,0 +1,18 @@
+use Rattle.std.proofs.Common.{arith, ◌∙◌}
+use Rattle.outside.proofs.ToldLemmas.{told_then}
+use Rattle.flymon_engine.specs.Live.{job_at}
+use Rattle.flymon_engine.proofs.LiveLemmas.{passed_told, calls_more_row, touched_before}
+use Rattle.flymon_engine.proofs.task.LiveTask.touch_rows.Goals as goal
+
+pub rows-preserved : goal.rows-preserved
+rows-preserved g c =
+    let r = g.R.RegFile in let live = c.args.self.now in let job = job_at live in let packet = c.args.packet.now in let most = live.most in
+    record {
+      faults = c.touch.ensures.faults ∙ c.rows.invariant.faults;
+      dims = c.touch.ensures.dims ∙ c.rows.invariant.dims;
+      told = told_then (r.cells c.args.regs.now) (r.cells c.rows.regs) (r.cells c.touch.new.regs) (λ x y z p q. tt) c.rows.invariant.told
+          (touched_before live.key job c.rows.row packet (r.cells c.rows.regs) (r.cells c.touch.new.regs) c.touch.ensures.cells);
+      cells = passed_told live.key job packet c.rows.row (r.cells c.args.regs.now) (r.cells c.rows.regs) (r.cells c.touch.new.regs) c.touch.ensures.cells
+          (omega (arith, most)) live.closed (omega (arith, c.rows-test.true, c.rows-row-end.ensures.value)) c.rows.invariant.cells;
+      calls = calls_more_row live.key job packet c.rows.row (r.calls c.args.regs.now) (r.calls c.rows.regs) (r.calls c.touch.new.regs) c.rows.invariant.calls c.touch.ensures.calls;
+    }
