@@ -25,11 +25,11 @@ impl TaskView for LiveTask {
 
     ghost masks = { λ live. mask_at (job_at live) };
 
-    ghost free = { λ live. free_at (job_at live) };
+    ghost free_counts = { λ live. free_at (job_at live) };
 
-    ghost most = { λ live. largest_at (job_at live) };
+    ghost largest_free = { λ live. largest_at (job_at live) };
 
-    ghost rows = { λ live. rows_on (job_at live) };
+    ghost live_counts = { λ live. rows_on (job_at live) };
 
     fn shape(&self) -> Shape
         ensures { result ≡ default_plan }

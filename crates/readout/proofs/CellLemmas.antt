@@ -12,7 +12,7 @@ use Rattle.readout.specs.declared.views.Placed.{Placed}
 use Rattle.readout.specs.declared.views.Side.{Side}
 use Rattle.readout.specs.Standings.{Standing, no_place, place_at, block_of, register_at, row_told, rows_told}
 use Rattle.readout.specs.Lines.{cell_line, row_lines, rows_lines, head_line, cells_lines}
-use Rattle.readout.specs.Judging.{lines_of_cells, side_size}
+use Rattle.readout.specs.Judging.{head_of, lines_of_cells, side_size}
 use Rattle.sketch_lower.specs.Operations.{start_of}
 use Rattle.readout.proofs.PieceLemmas.{put_behind, gathered_more, gathered_some, block_sent, block_end_fault, block_body_fault, block_head_fault}
 
@@ -206,10 +206,7 @@ length_told : (told : Cells) (side : Side) (standing : Standing) → length (row
 unfolding rows_told
 length_told told side standing = length-map standing.places (row_told told side)
 
--- the line that begins the block of a task
-abbrev pub head_of : Side → Standing → List ℕ
-head_of side standing = head_line side standing.task.name (length standing.places) (side_size side standing) (start_of standing.task.kind)
-
+-- the lines of the cells of a task
 abbrev pub block_of_cells : Side → Standing → Cells → List ℕ
 block_of_cells side standing told = lines_of_cells side (side_size side standing) standing.task (rows_told told side standing)
 

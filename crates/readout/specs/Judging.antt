@@ -1,5 +1,5 @@
 -- When a read-out has lines, and which.
-use Rattle.std.specs.Prelude.{◌≡◌, ℕ, ◌^◌, Bool, true, false, is_some, if◌then◌else◌, List, Option, None, Some, IfSome, Result, Ok, Err, MatchResult}
+use Rattle.std.specs.Prelude.{◌≡◌, ℕ, ◌^◌, Bool, true, false, is_some, if◌then◌else◌, List, length, Option, None, Some, IfSome, Result, Ok, Err, MatchResult}
 use Rattle.std.specs.Str.{bytes_eq}
 use Rattle.outside.specs.Told.{Stays, Grows}
 use Rattle.outside.specs.Sent.{CameInPart}
@@ -15,7 +15,7 @@ use Rattle.readout.specs.declared.faults.ReadFault.{ReadFault}
 use Rattle.readout.specs.declared.faults.ReadFault.TheVariants.{Unknown, NoFrozen, NoAnswer, BadKey, Device, Write}
 use Rattle.readout.specs.declared.views.Side.{Side}
 use Rattle.readout.specs.declared.views.Side.TheVariants.{Live, Frozen}
-use Rattle.readout.specs.Lines.{cells_lines, query_line, dist_lines, card_line}
+use Rattle.readout.specs.Lines.{head_line, cells_lines, query_line, dist_lines, card_line}
 use Rattle.readout.specs.Standings.{Standing, frozen_bits}
 
 -- the kinds that answer a key
@@ -76,6 +76,10 @@ frozen_size (Some bits) = 2 ^ bits
 abbrev pub side_size : Side → Standing → ℕ
 side_size Live standing = standing.task.size
 side_size Frozen standing = frozen_size (frozen_bits standing)
+
+-- the line that begins the block of a task's cells
+abbrev pub head_of : Side → Standing → List ℕ
+head_of side standing = head_line side standing.task.name (length standing.places) (side_size side standing) (start_of standing.task.kind)
 
 -- the lines over these rows of a task
 abbrev pub lines_of_cells : Side → ℕ → Sketch → List (List ℕ) → List ℕ

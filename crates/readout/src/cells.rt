@@ -4,7 +4,8 @@ ghost use Rattle.outside.specs.Told.{Stays, Grows};
 ghost use Rattle.outside.specs.Sent.{CameSoFar, CameInFront, CameInPart};
 ghost use Rattle.readout.specs.Standings.{standing_at, place_at, block_of, HasSide, IsFit, IsShaped, register_at, row_told, rows_told};
 ghost use Rattle.readout.specs.Lines.{cell_line, row_lines, rows_lines};
-ghost use Rattle.readout.specs.Judging.{lines_of_cells, side_size};
+ghost use Rattle.sketch_lower.specs.Operations.{start_of};
+ghost use Rattle.readout.specs.Judging.{head_of, lines_of_cells, side_size};
 ghost use Rattle.readout.specs.Stops.{IsStopOf};
 
 use crate::faults::ReadFault;
@@ -13,6 +14,7 @@ use crate::lines::{cell_line, head_line};
 use crate::pieces::{Piece, end_block, gather};
 use crate::views::{Side, TaskView};
 use fm_io::Sink;
+use key_mask::Line;
 use reg_file::{DeviceFault, RegFile};
 use sketch_lower::start_value;
 
@@ -132,6 +134,26 @@ fn gather_rows<V: TaskView, R: RegFile, S: Sink>(
     Ok(())
 }
 
+/// What the cells of the task started at.
+fn start_of<V: TaskView>(view: &V, at: usize) -> u32
+    requires { at < length (V.standings view.now) }
+    ensures { result ≡ start_of (standing_at (V.standings view.now) at).task.kind }
+{
+    start_value(view.task(at).kind())
+}
+
+/// The line that begins the block of the task.
+fn head_of<V: TaskView>(view: &V, at: usize, side: Side) -> Line
+    requires fit { IsFit (V.plan view.now) (V.standings view.now) }
+    requires task { at < length (V.standings view.now) }
+    requires side { HasSide side (standing_at (V.standings view.now) at) }
+    ensures { result.bytes ≡ head_of side (standing_at (V.standings view.now) at) }
+{
+    let task = view.task(at);
+    let size = cell_count(part_of(first_place(view, at), side));
+    head_line(side, task.name(), row_count(task), size, start_of(view, at))
+}
+
 /// Sends the cells of a task, row by row.
 #[tactic(auto, using(crate::proofs::StandingLemmas::rows_placed))]
 pub(crate) fn send_cells<V: TaskView, R: RegFile, S: Sink>(
@@ -156,21 +178,14 @@ pub(crate) fn send_cells<V: TaskView, R: RegFile, S: Sink>(
     ensures part { let standing = standing_at (V.standings view.now) at in OnErr result (IfSome (R.cells regs.new) (λ told. CameInPart (S.sent sink.old)
         (lines_of_cells side (side_size side standing) standing.task (rows_told told side standing)) (S.sent sink.new))) }
 {
-    let task = view.task(at);
-    let start = start_value(task.kind());
-    let rows = row_count(task);
-    let size = cell_count(part_of(first_place(view, at), side));
     let source = Source {
         task: at,
         side,
-        start,
+        start: start_of(view, at),
     };
+    let rows = row_count(view.task(at));
     let mut piece = Piece::new();
-    match gather(
-        sink,
-        &mut piece,
-        &head_line(side, task.name(), rows, size, start),
-    ) {
+    match gather(sink, &mut piece, &head_of(view, at, side)) {
         Ok(()) => {}
         Err(fault) => return Err(fault),
     }

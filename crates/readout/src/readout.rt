@@ -6,6 +6,7 @@ ghost use Rattle.readout.specs.declared.views.Side.TheVariants.{Live};
 ghost use Rattle.readout.specs.Standings.{Standing, found_in, live_bits, IsFit, IsShaped, rows_told};
 ghost use Rattle.readout.specs.Judging.{judged_cells, judged_query, judged_dist, judged_card, side_size, lines_of_cells, line_of_query, lines_of_dist, line_of_card, IsJudged, SendsJudged};
 
+use crate::OutOfMemory;
 use crate::card::send_card;
 use crate::cells::send_cells;
 use crate::dist::send_dist;
@@ -17,7 +18,7 @@ use fm_io::Sink;
 use hash_units::HashKey;
 use reg_file::RegFile;
 use sketch_defs::Name;
-use std::alloc::{AllocError, Global};
+use std::alloc::Global;
 use std::marker::Model;
 use task_filters::Filter;
 
@@ -40,7 +41,7 @@ impl Model for Readout {
 
 impl Readout {
     /// Takes room for the cells of a row.
-    pub fn new(alloc: Global, bits: u32) -> Result<Readout, AllocError>
+    pub fn new(alloc: Global, bits: u32) -> Result<Readout, OutOfMemory>
         requires { bits ≤ 20 }
         ensures { IfOk result (λ r. r ≡ bits) }
     {

@@ -35,11 +35,11 @@ pub trait TaskView {
 
     ghost masks: { Self → ℕ → ℕ → Option (List ℕ) };
 
-    ghost free: { Self → ℕ → ℕ };
+    ghost free_counts: { Self → ℕ → ℕ };
 
-    ghost most: { Self → ℕ → ℕ };
+    ghost largest_free: { Self → ℕ → ℕ };
 
-    ghost rows: { Self → ℕ → ℕ };
+    ghost live_counts: { Self → ℕ → ℕ };
 
     fn shape(&self) -> Shape
         ensures { result ≡ plan self.now };
@@ -71,17 +71,17 @@ pub trait TaskView {
     /// How many registers of the array are in no partition.
     fn free_count(&self, array: u32) -> u32
         requires { array < array_count (plan self.now) }
-        ensures { result ≡ free self.now array };
+        ensures { result ≡ free_counts self.now array };
 
     /// How many registers the largest free partition of the array has; 0 where there is none.
     fn largest(&self, array: u32) -> u32
         requires { array < array_count (plan self.now) }
-        ensures { result ≡ most self.now array };
+        ensures { result ≡ largest_free self.now array };
 
     /// How many live rows stand on the array.
     fn live_rows(&self, array: u32) -> u32
         requires { array < array_count (plan self.now) }
-        ensures { result ≡ rows self.now array };
+        ensures { result ≡ live_counts self.now array };
 
     /// The register at this index of a row's partition.
     fn cell<R: RegFile>(

@@ -1,98 +1,43 @@
-use Rattle.std.proofs.Common.{◌≡◌, length, IfSome, subst}
+use Rattle.std.proofs.Common.{IfSome, subst}
 use Rattle.std.proofs.lemmas.Result.{on_ok_weaker, on_err_weaker}
-use Rattle.sketch_lower.specs.Operations.{start_of}
 use Rattle.readout.specs.Standings.{standing_at}
-use Rattle.readout.specs.Judging.{side_size}
-use Rattle.readout.proofs.StandingLemmas.{rows_placed, size_of_side}
-use Rattle.readout.proofs.CellLemmas.{RowsPut, RowsCut, head_as, cells_head_fault, cells_body_fault, cells_end_fault, cells_sent}
+use Rattle.readout.proofs.CellLemmas.{RowsPut, RowsCut, cells_head_fault, cells_body_fault, cells_end_fault, cells_sent}
 use Rattle.readout.proofs.cells.send_cells.Goals as goal
 
 pub returns-in-Err-clause-part : goal.returns-in-Err-clause-part
 returns-in-Err-clause-part g c =
     let r = g.R.RegFile in let s = g.S.Sink in let v = g.V.TaskView in
     let standing = standing_at (v.standings c.args.view.now) c.args.at in
-    let named : c.name.result.now ≡ standing.task.name = cc (c.name.ensures, c.task-task.ensures) in
-    let counted : c.row_count-rows.result ≡ length standing.places =
-    cc (c.row_count-rows.ensures.value, c.task-task.ensures, rows_placed (v.plan c.args.view.now) (v.standings c.args.view.now) c.args.at c.requires.fit c.requires.task) in
-    let sized : c.cell_count-size.result ≡ side_size c.args.side standing =
-    cc (
-      c.cell_count-size.ensures,
-      c.part_of.ensures,
-      c.first_place.ensures.value,
-      size_of_side (v.plan c.args.view.now) (v.standings c.args.view.now) c.args.at c.args.side c.requires.fit c.requires.task c.requires.side,
-    ) in
-    let started : c.start_value-start.result ≡ start_of standing.task.kind = cc (c.start_value-start.ensures, c.kind.ensures, c.task-task.ensures) in
-    let head = head_as c.args.side standing c.head_line.result.bytes c.name.result.now c.row_count-rows.result c.cell_count-size.result c.start_value-start.result
-    c.head_line.ensures named counted sized started in
     cells_head_fault (r.cells c.args.regs.now) (s.sent c.args.sink.now) (s.sent c.gather.new.sink) c.args.side standing
-    (rw (c.new-piece.ensures, head) at c.in-Err.ensures.part)
+    (rw (c.new-piece.ensures, c.head_of.ensures) at c.in-Err.ensures.part)
 
 pub returns-in-Err-gather_rows-clause-part : goal.returns-in-Err-gather_rows-clause-part
 returns-in-Err-gather_rows-clause-part g c =
     let r = g.R.RegFile in let s = g.S.Sink in let v = g.V.TaskView in
     let standing = standing_at (v.standings c.args.view.now) c.args.at in
-    let named : c.name.result.now ≡ standing.task.name = cc (c.name.ensures, c.task-task.ensures) in
-    let counted : c.row_count-rows.result ≡ length standing.places =
-    cc (c.row_count-rows.ensures.value, c.task-task.ensures, rows_placed (v.plan c.args.view.now) (v.standings c.args.view.now) c.args.at c.requires.fit c.requires.task) in
-    let sized : c.cell_count-size.result ≡ side_size c.args.side standing =
-    cc (
-      c.cell_count-size.ensures,
-      c.part_of.ensures,
-      c.first_place.ensures.value,
-      size_of_side (v.plan c.args.view.now) (v.standings c.args.view.now) c.args.at c.args.side c.requires.fit c.requires.task c.requires.side,
-    ) in
-    let started : c.start_value-start.result ≡ start_of standing.task.kind = cc (c.start_value-start.ensures, c.kind.ensures, c.task-task.ensures) in
-    let head = head_as c.args.side standing c.head_line.result.bytes c.name.result.now c.row_count-rows.result c.cell_count-size.result c.start_value-start.result
-    c.head_line.ensures named counted sized started in
     cells_body_fault (r.cells c.gather_rows.new.regs) (s.sent c.args.sink.now) (s.sent c.gather.new.sink) (s.sent c.gather_rows.new.sink) c.args.side standing
-    c.gather.new.piece.bytes (rw (c.new-piece.ensures, head) at c.in-Ok.ensures.sent)
+    c.gather.new.piece.bytes (rw (c.new-piece.ensures, c.head_of.ensures) at c.in-Ok.ensures.sent)
     (subst (λ start. IfSome (r.cells c.gather_rows.new.regs) (RowsCut (s.sent c.gather.new.sink) c.gather.new.piece.bytes start c.args.side standing (s.sent c.gather_rows.new.sink)))
-    started c.in-Err-gather_rows.ensures.part)
+    c.start_of.ensures c.in-Err-gather_rows.ensures.part)
 
 pub returns-clause-sent : goal.returns-clause-sent
 returns-clause-sent g c =
     let r = g.R.RegFile in let s = g.S.Sink in let v = g.V.TaskView in
     let standing = standing_at (v.standings c.args.view.now) c.args.at in
-    let named : c.name.result.now ≡ standing.task.name = cc (c.name.ensures, c.task-task.ensures) in
-    let counted : c.row_count-rows.result ≡ length standing.places =
-    cc (c.row_count-rows.ensures.value, c.task-task.ensures, rows_placed (v.plan c.args.view.now) (v.standings c.args.view.now) c.args.at c.requires.fit c.requires.task) in
-    let sized : c.cell_count-size.result ≡ side_size c.args.side standing =
-    cc (
-      c.cell_count-size.ensures,
-      c.part_of.ensures,
-      c.first_place.ensures.value,
-      size_of_side (v.plan c.args.view.now) (v.standings c.args.view.now) c.args.at c.args.side c.requires.fit c.requires.task c.requires.side,
-    ) in
-    let started : c.start_value-start.result ≡ start_of standing.task.kind = cc (c.start_value-start.ensures, c.kind.ensures, c.task-task.ensures) in
-    let head = head_as c.args.side standing c.head_line.result.bytes c.name.result.now c.row_count-rows.result c.cell_count-size.result c.start_value-start.result
-    c.head_line.ensures named counted sized started in
     on_ok_weaker c.end_block.result
     (λ grew. cells_sent (r.cells c.gather_rows.new.regs) (s.sent c.args.sink.now) (s.sent c.gather.new.sink) (s.sent c.gather_rows.new.sink) (s.sent c.end_block.new.sink)
-    c.args.side standing c.gather.new.piece.bytes c.gather_rows.new.piece.bytes (rw (c.new-piece.ensures, head) at c.in-Ok.ensures.sent)
+    c.args.side standing c.gather.new.piece.bytes c.gather_rows.new.piece.bytes (rw (c.new-piece.ensures, c.head_of.ensures) at c.in-Ok.ensures.sent)
     (subst (λ start. IfSome (r.cells c.gather_rows.new.regs) (RowsPut (s.sent c.gather.new.sink) c.gather.new.piece.bytes start c.args.side standing c.gather_rows.new.piece.bytes (s.sent c.gather_rows.new.sink)))
-    started c.in-Ok-gather_rows.ensures.sent) grew)
+    c.start_of.ensures c.in-Ok-gather_rows.ensures.sent) grew)
     c.end_block.ensures.sent
 
 pub returns-clause-part : goal.returns-clause-part
 returns-clause-part g c =
     let r = g.R.RegFile in let s = g.S.Sink in let v = g.V.TaskView in
     let standing = standing_at (v.standings c.args.view.now) c.args.at in
-    let named : c.name.result.now ≡ standing.task.name = cc (c.name.ensures, c.task-task.ensures) in
-    let counted : c.row_count-rows.result ≡ length standing.places =
-    cc (c.row_count-rows.ensures.value, c.task-task.ensures, rows_placed (v.plan c.args.view.now) (v.standings c.args.view.now) c.args.at c.requires.fit c.requires.task) in
-    let sized : c.cell_count-size.result ≡ side_size c.args.side standing =
-    cc (
-      c.cell_count-size.ensures,
-      c.part_of.ensures,
-      c.first_place.ensures.value,
-      size_of_side (v.plan c.args.view.now) (v.standings c.args.view.now) c.args.at c.args.side c.requires.fit c.requires.task c.requires.side,
-    ) in
-    let started : c.start_value-start.result ≡ start_of standing.task.kind = cc (c.start_value-start.ensures, c.kind.ensures, c.task-task.ensures) in
-    let head = head_as c.args.side standing c.head_line.result.bytes c.name.result.now c.row_count-rows.result c.cell_count-size.result c.start_value-start.result
-    c.head_line.ensures named counted sized started in
     on_err_weaker c.end_block.result
     (λ part. cells_end_fault (r.cells c.gather_rows.new.regs) (s.sent c.args.sink.now) (s.sent c.gather.new.sink) (s.sent c.gather_rows.new.sink) (s.sent c.end_block.new.sink)
-    c.args.side standing c.gather.new.piece.bytes c.gather_rows.new.piece.bytes (rw (c.new-piece.ensures, head) at c.in-Ok.ensures.sent)
+    c.args.side standing c.gather.new.piece.bytes c.gather_rows.new.piece.bytes (rw (c.new-piece.ensures, c.head_of.ensures) at c.in-Ok.ensures.sent)
     (subst (λ start. IfSome (r.cells c.gather_rows.new.regs) (RowsPut (s.sent c.gather.new.sink) c.gather.new.piece.bytes start c.args.side standing c.gather_rows.new.piece.bytes (s.sent c.gather_rows.new.sink)))
-    started c.in-Ok-gather_rows.ensures.sent) part)
+    c.start_of.ensures c.in-Ok-gather_rows.ensures.sent) part)
     c.end_block.ensures.part
