@@ -1,3 +1,3 @@
 pub mod BlockLemmas
-pub mod PlanLemmas
+pub mod GeometryLemmas
 pub mod Values

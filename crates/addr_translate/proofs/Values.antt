@@ -2,7 +2,7 @@
 use Rattle.std.proofs.Common.{◌≡◌, ◌-◌, ◌^◌, [], ◌∷◌, map, refl}
 use Rattle.std.specs.List.{range_with_len}
 use Rattle.addr_translate.specs.Blocks.{index_of}
-use Rattle.addr_translate.specs.Plans.{Plan, equal_plan, array_count, arrays_before, groups_ended, group_number, cmu_number, bits_of, least_bits_of}
+use Rattle.addr_translate.specs.Geometry.{Geometry, equal_geometry, array_count, arrays_before, groups_ended, group_number, cmu_number, bits_of, least_bits_of}
 
 -- the hash of 10.0.0.1 in regions of 32 and 16 registers
 of_32 : index_of 0x919d5c4a 5 ≡ 18
@@ -18,8 +18,8 @@ all_20 : index_of 0xffff_ffff 20 ≡ 2 ^ 20 - 1
 all_20 = refl
 
 -- 3 groups of 3 CMUs, each array with 1,024 registers
-abbrev three : Plan
-three = equal_plan 3 (record { cmus = 3; units = 3; bits = 10 })
+abbrev three : Geometry
+three = equal_geometry 3 (record { cmus = 3; units = 3; bits = 10 })
 
 nine_arrays : array_count three ≡ 9
 nine_arrays = refl
@@ -40,7 +40,7 @@ unfolding groups_ended
 least_of_last = refl
 
 -- groups that differ: 2 CMUs, 1 CMU and 3 CMUs
-abbrev uneven : Plan
+abbrev uneven : Geometry
 uneven = record {
   groups = record { cmus = 2; units = 1; bits = 5 } ∷ record { cmus = 1; units = 4; bits = 16 } ∷ record { cmus = 3; units = 2; bits = 8 } ∷ [];
   split = 10;

@@ -1,6 +1,6 @@
 //! The shape of a switch: its groups, and the arrays of registers that stand in them.
 ghost use Rattle.std.specs.Prelude.{◌≡◌, ◌+◌, ◌<◌, ◌≤◌, length};
-ghost use Rattle.addr_translate.specs.Plans.{IsPlan, group_in, array_count, arrays_before, group_number, cmu_number, bits_of, least_bits_of};
+ghost use Rattle.addr_translate.specs.Geometry.{IsGeometry, group_in, array_count, arrays_before, group_number, cmu_number, bits_of, least_bits_of};
 
 use std::marker::Model;
 
@@ -37,20 +37,20 @@ pub struct Shape {
 
 impl Model for Shape {
     ghost use Rattle.std.specs.Prelude.{◌≡◌, ◌≤◌, length};
-    ghost use Rattle.addr_translate.specs.Plans.{Plan, Group, IsGroup, equal_plan, group_in, no_group};
+    ghost use Rattle.addr_translate.specs.Geometry.{Geometry, Group, IsGroup, equal_geometry, group_in, no_group};
     ghost use Rattle.addr_translate.specs.declared.shapes.TheConstants.{MOST_GROUPS};
 
-    ghost Value = { Plan };
+    ghost Value = { Geometry };
 
-    ghost view = { λ s. equal_plan s.groups (record { cmus = s.cmus; units = s.units; bits = s.bits }) };
+    ghost view = { λ s. equal_geometry s.groups (record { cmus = s.cmus; units = s.units; bits = s.bits }) };
 
     ghost invariant = { λ s. (1 ≤ s.groups) × (s.groups ≤ MOST_GROUPS) × IsGroup (record { cmus = s.cmus; units = s.units; bits = s.bits }) };
 
-    ghost inverse = { λ plan. record {
-      groups = length plan.groups;
-      cmus = (group_in plan 0).cmus;
-      units = (group_in plan 0).units;
-      bits = (group_in plan 0).bits;
+    ghost inverse = { λ geometry. record {
+      groups = length geometry.groups;
+      cmus = (group_in geometry 0).cmus;
+      units = (group_in geometry 0).units;
+      bits = (group_in geometry 0).bits;
     } };
 
     ghost use Rattle.std.proofs.Common.{ap₂};
@@ -63,10 +63,10 @@ impl Model for Shape {
 
 impl Shape {
     /// The number of groups, 1 to 12.
-    #[tactic(auto, using(crate::proofs::PlanLemmas::in_limits))]
+    #[tactic(auto, using(crate::proofs::GeometryLemmas::in_limits))]
     pub fn group_count(&self) -> u32
         ensures value { result ≡ length self.now.groups }
-        ensures limits { IsPlan self.now }
+        ensures limits { IsGeometry self.now }
     {
         self.groups
     }
@@ -81,7 +81,7 @@ impl Shape {
     }
 
     /// The number of the group in which an array stands, from 0.
-    #[tactic(auto, using(crate::proofs::PlanLemmas::group_facts))]
+    #[tactic(auto, using(crate::proofs::GeometryLemmas::group_facts))]
     pub fn group_of(&self, array: u32) -> u32
         requires { array < array_count self.now }
         ensures value { result ≡ group_number self.now array }
@@ -93,7 +93,7 @@ impl Shape {
     }
 
     /// The number of an array's CMU in its group, 0 to 3.
-    #[tactic(auto, using(crate::proofs::PlanLemmas::cmu_facts))]
+    #[tactic(auto, using(crate::proofs::GeometryLemmas::cmu_facts))]
     pub fn cmu_of(&self, array: u32) -> u32
         requires { array < array_count self.now }
         ensures value { result ≡ cmu_number self.now array }
@@ -104,7 +104,7 @@ impl Shape {
     }
 
     /// The number of the first array of a group, from 0.
-    #[tactic(auto, using(crate::proofs::PlanLemmas::before_in, crate::proofs::PlanLemmas::before_room))]
+    #[tactic(auto, using(crate::proofs::GeometryLemmas::before_in, crate::proofs::GeometryLemmas::before_room))]
     pub fn first_of(&self, group: u32) -> u32
         requires { group < length self.now.groups }
         ensures value { result ≡ arrays_before self.now group }
@@ -134,7 +134,7 @@ impl Shape {
     }
 
     /// The bits of an array, 5 to 16: it has 2 to this many registers.
-    #[tactic(auto, using(crate::proofs::PlanLemmas::bits_are))]
+    #[tactic(auto, using(crate::proofs::GeometryLemmas::bits_are))]
     pub fn bits_of(&self, array: u32) -> u32
         requires { array < array_count self.now }
         ensures value { result ≡ bits_of self.now array }
@@ -145,7 +145,7 @@ impl Shape {
     }
 
     /// The bits of an array's smallest partition, 0 to 11.
-    #[tactic(auto, using(crate::proofs::PlanLemmas::bits_are))]
+    #[tactic(auto, using(crate::proofs::GeometryLemmas::bits_are))]
     pub fn least_of(&self, array: u32) -> u32
         requires { array < array_count self.now }
         ensures value { result ≡ least_bits_of self.now array }

@@ -2,14 +2,14 @@
 use Rattle.std.proofs.Common.{◌≡◌, ℕ, ◌==◌, ◌≤◌, Bool, true, false, List, length, drop, take, Option, None, Some, Result, Ok, Err, nat_lt, if◌then◌else◌, IfSome, IsErrOf, refl, sym, ap, ◌∙◌, subst, arith}
 use Rattle.std.proofs.lemmas.List.{take_all}
 use Rattle.outside.specs.Told.{Told}
-use Rattle.fm_io.specs.Slots.{Tape, Slot, SlotMoves, Yields, MovesUpTo, IsAtEnd}
+use Rattle.fm_io.specs.Slots.{Cursor, Slot, SlotMoves, Yields, MovesUpTo, IsAtEnd}
 use Rattle.fm_io.proofs.SlotLemmas.{slot_weaker}
 use Rattle.capture_read.specs.declared.records.Order.{Order}
 use Rattle.capture_read.specs.declared.records.CaptureFault.{CaptureFault}
 use Rattle.capture_read.specs.declared.records.CaptureFault.TheVariants.{ShortHeader, BadMagic, BadLink, ShortRecord, BigRecord, Read}
 use Rattle.capture_read.specs.declared.reader.BeginFail.{BeginFail}
 use Rattle.capture_read.specs.declared.reader.BeginFail.TheVariants.{Fault}
-use Rattle.capture_read.specs.Records.{header_in, header_by, told_order, link_in}
+use Rattle.capture_read.specs.Records.{header_in, header_by, byte_order_in, link_in}
 use Rattle.capture_read.specs.Reading.{Reading, opened}
 use Rattle.capture_read.specs.Begin.{Answers, IsBegun, last_begun}
 
@@ -21,9 +21,9 @@ order_fault : (bytes : List ℕ) (found : Option Order) → Err Read ≡ header_
 order_fault bytes None e = cc
 order_fault bytes (Some order) e = link_fault order (link_in order bytes) (link_in order bytes == 1) e
 
-short_fault : (bytes : List ℕ) (short : Bool) → Err Read ≡ (if short then Err ShortHeader else header_by bytes (told_order bytes)) → ⊥
+short_fault : (bytes : List ℕ) (short : Bool) → Err Read ≡ (if short then Err ShortHeader else header_by bytes (byte_order_in bytes)) → ⊥
 short_fault bytes true e = cc
-short_fault bytes false e = order_fault bytes (told_order bytes) e
+short_fault bytes false e = order_fault bytes (byte_order_in bytes) e
 
 -- no header is a failed read
 pub no_read : (bytes : List ℕ) → Err Read ≡ header_in bytes → ⊥
@@ -47,13 +47,13 @@ last_stays bytes (BadLink link) e last = refl
 last_stays bytes (ShortRecord offset) e last = refl
 last_stays bytes (BigRecord offset len) e last = refl
 
--- a tape that was read from its start to its end gave all its bytes
-whole : (piece : List ℕ) (old new : Tape) → Yields piece old new → IsAtEnd new → old.at ≡ 0 → piece ≡ old.bytes
+-- a cursor that was read from its start to its end gave all its bytes
+whole : (piece : List ℕ) (old new : Cursor) → Yields piece old new → IsAtEnd new → old.at ≡ 0 → piece ≡ old.bytes
 whole piece old new read end start =
     let long : length old.bytes ≤ length piece = omega (arith, ap (λ (l : List ℕ). length l) read.bytes, read.at, end, start) in
     read.next ∙ ap (λ (i : ℕ). take (length piece) (drop i old.bytes)) start ∙ take_all (length piece) old.bytes long
 
-told_begun : (piece : List ℕ) (result : Result Reading BeginFail) (old new : Option Tape)
+told_begun : (piece : List ℕ) (result : Result Reading BeginFail) (old new : Option Cursor)
     → Told (Yields piece) old new → IfSome new IsAtEnd → Answers piece result → Told (IsBegun result) old new
 told_begun piece result old None read end answer = tt
 told_begun piece result None (Some new) read end answer = absurd read
@@ -65,9 +65,9 @@ told_begun piece result (Some old) (Some new) read end answer =
     }
 
 pub begun : (piece : List ℕ) (result : Result Reading BeginFail) (old new : Slot)
-    → SlotMoves (Yields piece) old new → IfSome new.tape IsAtEnd → Answers piece result → SlotMoves (IsBegun result) old new
+    → SlotMoves (Yields piece) old new → IfSome new.cursor IsAtEnd → Answers piece result → SlotMoves (IsBegun result) old new
 begun piece result old new read end answer =
-    record { attached = read.attached; tape = told_begun piece result old.tape new.tape read.tape end answer }
+    record { attached = read.attached; cursor = told_begun piece result old.cursor new.cursor read.cursor end answer }
 
 -- a reading that failed, or had no room
 pub not_begun : (most : ℕ) (fail : BeginFail) (old new : Slot)

@@ -4,7 +4,7 @@ use Rattle.std.proofs.lemmas.Bool.Decides.{nat_tests}
 use Rattle.std.proofs.lemmas.List.{length-drop}
 use Rattle.capture_read.specs.declared.records.CaptureFault.{CaptureFault}
 use Rattle.capture_read.specs.declared.records.Frame.{Frame}
-use Rattle.capture_read.specs.Records.{Record, record_in, seen}
+use Rattle.capture_read.specs.Records.{Record, record_in, record_view}
 use Rattle.capture_read.specs.Reading.{Reading, next_in, moved, after_next}
 
 -- the most records were read
@@ -33,7 +33,7 @@ moves_on here now found same e = rw (same, e) refl
 
 -- a fault that was handed on
 pub handed_on : (found : Result (Option Frame) CaptureFault) (fault : CaptureFault)
-    → IsErr found → IsErrAnd found (λ x. x ≡ fault) → Err fault ≡ seen found
+    → IsErr found → IsErrAnd found (λ x. x ≡ fault) → Err fault ≡ record_view found
 handed_on (Ok x) fault is e = absurd e
 handed_on (Err x) fault is e = ap Err (sym e)
 

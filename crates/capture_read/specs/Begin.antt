@@ -4,7 +4,7 @@ use Rattle.capture_read.specs.declared.records.CaptureFault.TheVariants.{Read}
 use Rattle.capture_read.specs.declared.reader.BeginFail.{BeginFail}
 use Rattle.capture_read.specs.declared.reader.BeginFail.TheVariants.{Fault, Memory}
 use Rattle.capture_read.specs.Reading.{Reading, open_in}
-use Rattle.fm_io.specs.Slots.{Tape}
+use Rattle.fm_io.specs.Slots.{Cursor}
 
 -- the slot of the last call that failed: slot 2 after a read that failed
 abbrev pub last_begun : {T : Type 0} → ℕ → Result T BeginFail → ℕ
@@ -18,8 +18,8 @@ Answers bytes (Err Memory) = Unit {0}
 Answers bytes (Err (Fault Read)) = Unit {0}
 Answers bytes (Err (Fault fault)) = open_in bytes ≡ Err fault
 
--- the tape keeps its bytes, and from its start on they were read as a capture
-pub record IsBegun (result : Result Reading BeginFail) (old new : Tape) : Type 0 where
+-- the cursor keeps its bytes, and from its start on they were read as a capture
+pub record IsBegun (result : Result Reading BeginFail) (old new : Cursor) : Type 0 where
   pub bytes : new.bytes ≡ old.bytes
   pub from : old.at ≤ new.at
   pub answer : old.at ≡ 0 → Answers old.bytes result

@@ -17,8 +17,8 @@ unfoldable pub has_magic : Order → List ℕ → Bool
 has_magic order bytes = number_in order 4 bytes == 0xa1b2c3d4 || number_in order 4 bytes == 0xa1b23c4d
 
 -- the byte order in which the magic number is a capture's
-unfoldable pub told_order : List ℕ → Option Order
-told_order bytes =
+unfoldable pub byte_order_in : List ℕ → Option Order
+byte_order_in bytes =
     if has_magic Big bytes then Some Big
     else if has_magic Little bytes then Some Little
     else None
@@ -35,7 +35,7 @@ header_by bytes (Some order) =
 
 -- the byte order of a capture, or the first fault of its header
 unfoldable pub header_in : List ℕ → Result Order CaptureFault
-header_in bytes = if nat_lt (length bytes) 24 then Err ShortHeader else header_by bytes (told_order bytes)
+header_in bytes = if nat_lt (length bytes) 24 then Err ShortHeader else header_by bytes (byte_order_in bytes)
 
 -- what was captured of a packet, and the packet's own length
 pub record Record : Type 0 where
@@ -56,7 +56,7 @@ record_in order offset rest =
     else Ok (Some (record { frame = take (captured_in order rest) (drop 16 rest); len = number_in order 4 (drop 12 rest) }))
 
 -- what a frame that is lent shows
-abbrev pub seen : Result (Option Frame) CaptureFault → Result (Option Record) CaptureFault
-seen (Err fault) = Err fault
-seen (Ok None) = Ok None
-seen (Ok (Some frame)) = Ok (Some (record { frame = frame.bytes.now; len = frame.len }))
+abbrev pub record_view : Result (Option Frame) CaptureFault → Result (Option Record) CaptureFault
+record_view (Err fault) = Err fault
+record_view (Ok None) = Ok None
+record_view (Ok (Some frame)) = Ok (Some (record { frame = frame.bytes.now; len = frame.len }))

@@ -2,10 +2,10 @@
 ghost use Rattle.std.specs.Prelude.{◌≡◌, ℕ, ◌≤◌, true, length, drop, IsErrOf, IfOk};
 ghost use Rattle.outside.specs.Faults.{Rose};
 ghost use Rattle.fm_io.specs.Slots.{slot_at, SlotMoves, OthersStay};
-ghost use Rattle.fm_io.specs.Names.{ShelfStays};
+ghost use Rattle.fm_io.specs.Names.{DirectoryStays};
 ghost use Rattle.std.specs.Borrow.{sem};
 ghost use Rattle.capture_read.specs.Reading.{open_in, next_in, after_next};
-ghost use Rattle.capture_read.specs.Records.{seen};
+ghost use Rattle.capture_read.specs.Records.{record_view};
 ghost use Rattle.capture_read.specs.Begin.{Answers, IsBegun, last_begun};
 
 use crate::records::{CaptureFault, Frame, HEADER_BYTES, Order, RECORD_BYTES, frame_in, order_in};
@@ -81,7 +81,7 @@ impl Capture {
         ensures read { IsErrOf result (BeginFail.Fault CaptureFault.Read) → Rose (F.faults files.old) (F.faults files.new) }
         ensures last { F.last files.new ≡ last_begun (F.last files.old) result }
         ensures strays { F.strays files.new ≡ F.strays files.old }
-        ensures shelf { ShelfStays (F.shelf files.old) (F.shelf files.new) }
+        ensures directory { DirectoryStays (F.directory files.old) (F.directory files.new) }
         ensures slot { SlotMoves (IsBegun result) (slot_at (F.slots files.old) 2) (slot_at (F.slots files.new) 2) }
         ensures others { OthersStay 2 (F.slots files.old) (F.slots files.new) }
         ensures opened { IfOk result (λ capture. open_in capture.bytes ≡ Ok capture) }
@@ -97,7 +97,7 @@ impl Capture {
     /// Reads the next record. Its frame is lent until the capture is used again.
     pub fn next<F: Files>(&mut self, _files: &mut F) -> Result<Option<Frame<'_>>, CaptureFault>
         ensures* ends { sem 𝓛 (EndsAs self.entry (λ v. v ≡ after_next self.old)) }
-        ensures next { seen result ≡ next_in self.old }
+        ensures next { record_view result ≡ next_in self.old }
         ensures files { _files.new ≡ _files.old }
     {
         if self.count == MOST_RECORDS {

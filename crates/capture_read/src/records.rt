@@ -1,6 +1,6 @@
 //! The header and the records of a capture, read from slices.
 ghost use Rattle.std.specs.Prelude.{◌≡◌, ◌+◌, ◌≤◌, length, IfOk, IfSome, OnOk};
-ghost use Rattle.capture_read.specs.Records.{number_in, has_magic, told_order, header_in, record_in, seen};
+ghost use Rattle.capture_read.specs.Records.{number_in, has_magic, byte_order_in, header_in, record_in, record_view};
 
 use byteorder::{BigEndian, ByteOrder, LittleEndian};
 
@@ -65,10 +65,10 @@ fn has_magic(order: Order, bytes: &[u8]) -> bool
 }
 
 /// The byte order that the magic number tells.
-#[tactic(auto, using(std::proofs::lemmas::Bool::Decides::nat_tests), unfolding(crate::specs::Records::told_order))]
-fn told_order(bytes: &[u8]) -> Option<Order>
+#[tactic(auto, using(std::proofs::lemmas::Bool::Decides::nat_tests), unfolding(crate::specs::Records::byte_order_in))]
+fn byte_order_in(bytes: &[u8]) -> Option<Order>
     requires { 4 ≤ length bytes.now }
-    ensures { result ≡ told_order bytes.now }
+    ensures { result ≡ byte_order_in bytes.now }
 {
     if has_magic(Order::Big, bytes) {
         Some(Order::Big)
@@ -88,7 +88,7 @@ pub fn order_in(bytes: &[u8]) -> Result<Order, CaptureFault>
     if bytes.len() < HEADER_BYTES {
         return Err(CaptureFault::ShortHeader);
     }
-    let Some(order) = told_order(bytes) else {
+    let Some(order) = byte_order_in(bytes) else {
         return Err(CaptureFault::BadMagic);
     };
     let link = number(order, &bytes[20..]) & 0xffff;
@@ -102,7 +102,7 @@ pub fn order_in(bytes: &[u8]) -> Result<Order, CaptureFault>
 /// The record with which `rest` begins, at this offset in the file; None where nothing is left.
 #[tactic(auto, using(std::proofs::lemmas::Bool::Decides::nat_tests), unfolding(crate::specs::Records::record_in))]
 pub fn frame_in(order: Order, offset: u64, rest: &[u8]) -> Result<Option<Frame<'_>>, CaptureFault>
-    ensures value { seen result ≡ record_in order offset rest.now }
+    ensures value { record_view result ≡ record_in order offset rest.now }
     ensures room { IfOk result (λ found. IfSome found (λ frame. 16 + length frame.bytes.now ≤ length rest.now)) }
 {
     if rest.is_empty() {

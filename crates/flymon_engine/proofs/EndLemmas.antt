@@ -6,7 +6,7 @@ use Rattle.outside.specs.Sent.{CameInFront}
 use Rattle.outside.proofs.ToldLemmas.{told_then, told_weaker}
 use Rattle.capture_read.specs.declared.records.CaptureFault.{CaptureFault}
 use Rattle.pkt_headers.specs.declared.packets.Packet.{Packet}
-use Rattle.reg_file.specs.Registers.{Cells}
+use Rattle.reg_file.specs.Registers.{Contents}
 use Rattle.reg_file.specs.declared.traits.Call.{Call}
 use Rattle.sketch_defs.specs.Tasks.{Sketch}
 use Rattle.task_lang.specs.declared.commands.Command.{Command}
@@ -15,8 +15,8 @@ use Rattle.flymon_engine.specs.declared.stop.Halt.{Halt}
 use Rattle.flymon_engine.specs.declared.stop.Halt.TheVariants as halts
 use Rattle.flymon_engine.specs.Endings.{ending_of, IsCarryStop}
 use Rattle.flymon_engine.specs.Script.{Script}
-use Rattle.flymon_engine.specs.Plan.{Carried}
-use Rattle.flymon_engine.specs.Carrying.{HasCause, SendsBy, CallsBy, LaysBy, FaultsBy}
+use Rattle.flymon_engine.specs.Expected.{Carried}
+use Rattle.flymon_engine.specs.Carrying.{HaltHasCause, SendsBy, CallsBy, LaysBy, FaultsBy}
 use Rattle.flymon_engine.specs.Steps.{text_of, calls_all, counted, fault_met}
 use Rattle.flymon_engine.specs.Clauses.{IsVerdict, SendsText, MakesCalls, LaysOut, IsFront, status_by, status_in, StopsAs}
 
@@ -43,11 +43,11 @@ shaped_front before shaped after all none front =
     none front.so_far.grows
 
 -- what holds of the key and the script that were used holds of these
-pub by_same : (P : List ℕ → Script → Type 0) (key used_key : List ℕ) (task used_task : Sketch) (bits used_bits : ℕ) (commands used : List Command)
-    → used_key ≡ key → used_task ≡ task → used_bits ≡ bits → used ≡ commands
+pub by_same : (P : List ℕ → Script → Type 0) (hash_key used_key : List ℕ) (task used_task : Sketch) (bits used_bits : ℕ) (commands used : List Command)
+    → used_key ≡ hash_key → used_task ≡ task → used_bits ≡ bits → used ≡ commands
     → P used_key (record { job = record { task = used_task; bits = used_bits }; commands = used })
-    → P key (record { job = record { task = task; bits = bits }; commands = commands })
-by_same P key used_key task used_task bits used_bits commands used same_key same_task same_bits same holds =
+    → P hash_key (record { job = record { task = task; bits = bits }; commands = commands })
+by_same P hash_key used_key task used_task bits used_bits commands used same_key same_task same_bits same holds =
     subst (λ (k : List ℕ). P k (record { job = record { task = task; bits = bits }; commands = commands })) same_key
     (subst (λ (t : Sketch). P used_key (record { job = record { task = t; bits = bits }; commands = commands })) same_task
     (subst (λ (b : ℕ). P used_key (record { job = record { task = used_task; bits = b }; commands = commands })) same_bits
@@ -68,32 +68,32 @@ carried_damage (Err (halts.Damage found)) script packets fault faults = faults
 carried_damage (Err halts.Output) script packets fault faults = tt
 carried_damage (Err halts.Device) script packets fault faults = tt
 
-pub carried_text : (result : Result (Unit {0}) Halt) (script : Script) (packets : List Packet) (fault : Option CaptureFault) (key : List ℕ)
-    (cells : Option Cells) (out now : Option (List ℕ)) → IfSome cells (λ _. SendsBy out (text_of key script packets fault) result now)
-    → SendsText key (Some (Carried script packets fault)) cells out (status_in (ending_of result)) now
-carried_text (Ok x) script packets fault key cells out now sends = sends
-carried_text (Err (halts.Damage found)) script packets fault key cells out now sends = sends
-carried_text (Err halts.Output) script packets fault key cells out now sends = sends
-carried_text (Err halts.Device) script packets fault key cells out now sends = sends
+pub carried_text : (result : Result (Unit {0}) Halt) (script : Script) (packets : List Packet) (fault : Option CaptureFault) (hash_key : List ℕ)
+    (cells : Option Contents) (out now : Option (List ℕ)) → IfSome cells (λ _. SendsBy out (text_of hash_key script packets fault) result now)
+    → SendsText hash_key (Some (Carried script packets fault)) cells out (status_in (ending_of result)) now
+carried_text (Ok x) script packets fault hash_key cells out now sends = sends
+carried_text (Err (halts.Damage found)) script packets fault hash_key cells out now sends = sends
+carried_text (Err halts.Output) script packets fault hash_key cells out now sends = sends
+carried_text (Err halts.Device) script packets fault hash_key cells out now sends = sends
 
-pub carried_calls : (result : Result (Unit {0}) Halt) (script : Script) (packets : List Packet) (fault : Option CaptureFault) (key : List ℕ)
+pub carried_calls : (result : Result (Unit {0}) Halt) (script : Script) (packets : List Packet) (fault : Option CaptureFault) (hash_key : List ℕ)
     (before shaped after : Option (List Call)) → Told (λ old now. now ≡ []) before shaped
-    → CallsBy shaped (calls_all key script packets fault) result after
-    → MakesCalls key (Some (Carried script packets fault)) before (status_in (ending_of result)) after
-carried_calls (Ok x) script packets fault key before shaped after none calls = shaped_calls before shaped after (calls_all key script packets fault) none calls
-carried_calls (Err (halts.Damage found)) script packets fault key before shaped after none calls =
-    shaped_calls before shaped after (calls_all key script packets fault) none calls
-carried_calls (Err halts.Output) script packets fault key before shaped after none calls =
-    shaped_front before shaped after (calls_all key script packets fault) none calls
-carried_calls (Err halts.Device) script packets fault key before shaped after none calls =
-    shaped_front before shaped after (calls_all key script packets fault) none calls
+    → CallsBy shaped (calls_all hash_key script packets fault) result after
+    → MakesCalls hash_key (Some (Carried script packets fault)) before (status_in (ending_of result)) after
+carried_calls (Ok x) script packets fault hash_key before shaped after none calls = shaped_calls before shaped after (calls_all hash_key script packets fault) none calls
+carried_calls (Err (halts.Damage found)) script packets fault hash_key before shaped after none calls =
+    shaped_calls before shaped after (calls_all hash_key script packets fault) none calls
+carried_calls (Err halts.Output) script packets fault hash_key before shaped after none calls =
+    shaped_front before shaped after (calls_all hash_key script packets fault) none calls
+carried_calls (Err halts.Device) script packets fault hash_key before shaped after none calls =
+    shaped_front before shaped after (calls_all hash_key script packets fault) none calls
 
-pub carried_registers : (result : Result (Unit {0}) Halt) (script : Script) (packets : List Packet) (fault : Option CaptureFault) (key : List ℕ) (cells : Option Cells)
-    → LaysBy key script.job (counted script packets fault) result cells → LaysOut key (Some (Carried script packets fault)) (status_in (ending_of result)) cells
-carried_registers (Ok x) script packets fault key cells lays = lays
-carried_registers (Err (halts.Damage found)) script packets fault key cells lays = lays
-carried_registers (Err halts.Output) script packets fault key cells lays = tt
-carried_registers (Err halts.Device) script packets fault key cells lays = tt
+pub carried_registers : (result : Result (Unit {0}) Halt) (script : Script) (packets : List Packet) (fault : Option CaptureFault) (hash_key : List ℕ) (cells : Option Contents)
+    → LaysBy hash_key script.job (counted script packets fault) result cells → LaysOut hash_key (Some (Carried script packets fault)) (status_in (ending_of result)) cells
+carried_registers (Ok x) script packets fault hash_key cells lays = lays
+carried_registers (Err (halts.Damage found)) script packets fault hash_key cells lays = lays
+carried_registers (Err halts.Output) script packets fault hash_key cells lays = tt
+carried_registers (Err halts.Device) script packets fault hash_key cells lays = tt
 
 pub carry_stops : (result : Result (Unit {0}) Halt) → IfErr (ending_of result) IsCarryStop
 carry_stops (Ok x) = tt
@@ -101,14 +101,14 @@ carry_stops (Err (halts.Damage found)) = tt
 carry_stops (Err halts.Output) = tt
 carry_stops (Err halts.Device) = tt
 
-pub cause_output : (result : Result (Unit {0}) Halt) (ob on rb rn : ℕ) (fault : Option CaptureFault) → IfErr result (HasCause ob on rb rn fault)
+pub cause_output : (result : Result (Unit {0}) Halt) (ob on rb rn : ℕ) (fault : Option CaptureFault) → IfErr result (HaltHasCause ob on rb rn fault)
     → status_in (ending_of result) ≡ statuses.OutputFault → Rose ob on
 cause_output (Ok x) ob on rb rn fault cause is = cc
 cause_output (Err (halts.Damage found)) ob on rb rn fault cause is = cc
 cause_output (Err halts.Output) ob on rb rn fault cause is = cause
 cause_output (Err halts.Device) ob on rb rn fault cause is = cc
 
-pub cause_device : (result : Result (Unit {0}) Halt) (ob on rb rn : ℕ) (fault : Option CaptureFault) → IfErr result (HasCause ob on rb rn fault)
+pub cause_device : (result : Result (Unit {0}) Halt) (ob on rb rn : ℕ) (fault : Option CaptureFault) → IfErr result (HaltHasCause ob on rb rn fault)
     → status_in (ending_of result) ≡ statuses.DeviceFault → Rose rb rn
 cause_device (Ok x) ob on rb rn fault cause is = cc
 cause_device (Err (halts.Damage found)) ob on rb rn fault cause is = cc

@@ -9,5 +9,5 @@ pub mod PassLemmas
 pub mod ReportLemmas
 pub mod ScriptValues
 pub mod StepLemmas
-pub mod TellLemmas
+pub mod ReadingOutLemmas
 pub mod ViewLemmas

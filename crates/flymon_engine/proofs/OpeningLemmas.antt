@@ -36,9 +36,9 @@ unfolding verdict_in
 judged text said is = ap verdict_by is
 
 -- a script at fault, and one that is read
-pub fault_told : (told : Option (List ℕ)) (items : List ℕ) (fault : ScriptFault)
+pub expected_fault : (told : Option (List ℕ)) (items : List ℕ) (fault : ScriptFault)
     → IfSome told (λ bytes. items ≡ take (SCRIPT_LIMIT + 1) bytes) → script_in items ≡ Err fault → IfSome told (λ bytes. verdict_in bytes ≡ Faulty fault)
-fault_told told items fault read is = verdict_told told items (Faulty fault) read (judged items (Err fault) is)
+expected_fault told items fault read is = verdict_told told items (Faulty fault) read (judged items (Err fault) is)
 
 pub script_told : (told : Option (List ℕ)) (items : List ℕ) (commands : List Command) (found : Option Script)
     → IfSome told (λ bytes. items ≡ take (SCRIPT_LIMIT + 1) bytes) → script_in items ≡ Ok commands → found ≡ built_in commands

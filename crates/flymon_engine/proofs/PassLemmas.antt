@@ -9,7 +9,7 @@ use Rattle.std.proofs.lemmas.List.Elements.{filter-append}
 use Rattle.capture_read.specs.declared.records.CaptureFault.{CaptureFault}
 use Rattle.pkt_headers.specs.declared.packets.Packet.{Packet}
 use Rattle.task_filters.specs.Filters.{passes}
-use Rattle.reg_file.specs.Registers.{Cells}
+use Rattle.reg_file.specs.Registers.{Contents}
 use Rattle.sketch_defs.specs.Cells.{cells_of, row_of}
 use Rattle.sketch_lower.specs.Operations.{start_of}
 use Rattle.sketch_lower.proofs.CellLemmas.{cells_start}
@@ -28,19 +28,19 @@ matched_more job packets at vector inside is =
     ap (matched job) (take_one_more packets at vector inside is)
     ∙ filter-append (λ (packet : Packet). passes job.task.filter packet.vec) (take at packets) (vector ∷ [])
 
-pub calls_one_more : (key : List ℕ) (job : Job) (packets : List Packet) (from at : ℕ) (vector : Packet)
+pub calls_one_more : (hash_key : List ℕ) (job : Job) (packets : List Packet) (from at : ℕ) (vector : Packet)
     → from ≤ at → at < length packets → vector ≡ get_or packets at vector
-    → flat_map (calls_on key job) (matched job (take (at - from) (drop from packets))) ++ flat_map (calls_on key job) (matched job (vector ∷ []))
-    ≡ flat_map (calls_on key job) (matched job (take (at + 1 - from) (drop from packets)))
-calls_one_more key job packets from at vector low high is =
+    → flat_map (calls_on hash_key job) (matched job (take (at - from) (drop from packets))) ++ flat_map (calls_on hash_key job) (matched job (vector ∷ []))
+    ≡ flat_map (calls_on hash_key job) (matched job (take (at + 1 - from) (drop from packets)))
+calls_one_more hash_key job packets from at vector low high is =
     let next : at + 1 - from ≡ (at - from) + 1 = omega arith in
     let inside : at - from < length (drop from packets) = omega (arith, length-drop from packets) in
     let place : from + (at - from) ≡ at = omega arith in
     let item : vector ≡ get_or (drop from packets) (at - from) vector =
     sym (get_or-drop from packets (at - from) vector ∙ (ap (λ i. get_or packets i vector) place ∙ sym is)) in
     rw next
-    (sym (ap (flat_map (calls_on key job)) (matched_more job (drop from packets) (at - from) vector inside item)
-    ∙ flat_map-append (calls_on key job) (matched job (take (at - from) (drop from packets))) (matched job (vector ∷ []))))
+    (sym (ap (flat_map (calls_on hash_key job)) (matched_more job (drop from packets) (at - from) vector inside item)
+    ∙ flat_map-append (calls_on hash_key job) (matched job (take (at - from) (drop from packets))) (matched job (vector ∷ []))))
 
 -- what a command takes of the packets that are left, by their number
 pub taken_count : (packets : List Packet) (taken count asked : ℕ) → count ≡ min (length packets - taken) asked
@@ -63,23 +63,23 @@ taken_packets packets taken count asked is =
     rw (same, is) (take_length asked (drop taken packets))
 
 -- registers that hold the start value are the cells before any packet
-start_cell : (key : List ℕ) (job : Job) (row index : ℕ) → row < job.task.rows → index < 2 ^ job.bits
-    → start_of job.task.kind ≡ get_or (row_of (cells_of key job.task job.bits []) row) index 0
-start_cell key job row index inside small =
+start_cell : (hash_key : List ℕ) (job : Job) (row index : ℕ) → row < job.task.rows → index < 2 ^ job.bits
+    → start_of job.task.kind ≡ get_or (row_of (cells_of hash_key job.task job.bits []) row) index 0
+start_cell hash_key job row index inside small =
     let zeros : List ℕ = replicate (2 ^ job.bits) (start_of job.task.kind) in
-    sym (ap (λ rows. get_or (row_of rows row) index 0) (cells_start key job.task job.bits)
+    sym (ap (λ rows. get_or (row_of rows row) index 0) (cells_start hash_key job.task job.bits)
     ∙ (ap (λ l. get_or l index 0) (get_or-replicate job.task.rows row zeros [] inside)
     ∙ get_or-replicate (2 ^ job.bits) index (start_of job.task.kind) 0 small))
 
-pub cells_begin : (key : List ℕ) (job : Job) (a : Option Cells) → IfSome a (HoldStart job job.task.rows) → IfSome a (AreCells key job [])
-cells_begin key job None start = tt
-cells_begin key job (Some cells) start = λ row index inside small. start row index inside small ∙ start_cell key job row index inside small
+pub cells_begin : (hash_key : List ℕ) (job : Job) (a : Option Contents) → IfSome a (HoldStart job job.task.rows) → IfSome a (AreCells hash_key job [])
+cells_begin hash_key job None start = tt
+cells_begin hash_key job (Some cells) start = λ row index inside small. start row index inside small ∙ start_cell hash_key job row index inside small
 
-pub if_told : {P : Type 0} (a : Option Cells) → P → IfSome a (λ _. P)
+pub if_told : {P : Type 0} (a : Option Contents) → P → IfSome a (λ _. P)
 if_told None p = tt
 if_told (Some x) p = p
 
-pub then_told : {P Q : Type 0} (a : Option Cells) → (P → Q) → IfSome a (λ _. P) → IfSome a (λ _. Q)
+pub then_told : {P Q : Type 0} (a : Option Contents) → (P → Q) → IfSome a (λ _. P) → IfSome a (λ _. Q)
 then_told None f p = tt
 then_told (Some x) f p = f p
 

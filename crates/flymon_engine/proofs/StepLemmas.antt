@@ -8,14 +8,14 @@ use Rattle.outside.specs.Told.{Grows}
 use Rattle.outside.specs.Sent.{CameSoFar, CameInFront}
 use Rattle.outside.proofs.SentLemmas.{none_came, more_came, all_came, part_came}
 use Rattle.outside.proofs.ToldLemmas.{stays_same}
-use Rattle.reg_file.specs.Registers.{Cells}
+use Rattle.reg_file.specs.Registers.{Contents}
 use Rattle.reg_file.specs.declared.traits.Call.{Call}
 use Rattle.pkt_headers.specs.declared.packets.Packet.{Packet}
 use Rattle.std.proofs.lemmas.List.Elements.{filter-append}
 use Rattle.task_filters.specs.Filters.{passes}
 use Rattle.task_lang.specs.declared.commands.Command.{Command}
 use Rattle.flymon_engine.specs.Script.{Job}
-use Rattle.flymon_engine.specs.Carrying.{IsToldBefore, HasCause, MeetsAs, SendsBy, CallsBy, LaysBy, FaultsBy}
+use Rattle.flymon_engine.specs.Carrying.{IsToldBefore, HaltHasCause, MeetsAs, SendsBy, CallsBy, LaysBy, FaultsBy}
 use Rattle.flymon_engine.specs.declared.stop.Halt.{Halt}
 use Rattle.flymon_engine.specs.declared.stop.Halt.TheVariants as halts
 use Rattle.flymon_engine.specs.Cells.{AreCells}
@@ -28,14 +28,14 @@ taken_front : (job : Job) (packets : List Packet) (taken : ℕ) (command : Comma
 taken_front job packets taken command = sym (take_length (asked_by command) (drop taken packets))
 
 after_is : (job : Job) (packets : List Packet) (taken : ℕ) (passed : List Packet) → passed ≡ take (length passed) (drop taken packets)
-    → (let s : State = record { past = matched job (take taken packets) ++ matched job passed; left = drop (length passed) (drop taken packets) } in s)
+    → (let s : State = record { counted_packets = matched job (take taken packets) ++ matched job passed; left = drop (length passed) (drop taken packets) } in s)
     ≡ state_at job packets (taken + length passed)
 after_is job packets taken passed front =
-    let past : matched job (take taken packets) ++ matched job passed ≡ matched job (take (taken + length passed) packets) =
+    let counted_packets : matched job (take taken packets) ++ matched job passed ≡ matched job (take (taken + length passed) packets) =
     sym (filter-append (λ (packet : Packet). passes job.task.filter packet.vec) (take taken packets) passed)
     ∙ ap (matched job) (ap (λ l. take taken packets ++ l) front ∙ sym (take-add taken (length passed) packets)) in
     let left : drop (length passed) (drop taken packets) ≡ drop (taken + length passed) packets = drop-drop (length passed) taken packets in
-    rw (past, left) refl
+    rw (counted_packets, left) refl
 
 pub after_step : (job : Job) (packets : List Packet) (taken next : ℕ) (command : Command)
     → next ≡ taken + length (taken_by (state_at job packets taken) command) → after job (state_at job packets taken) command ≡ state_at job packets next
@@ -48,26 +48,26 @@ rest_is commands index command inside is =
     drop-cons commands index command inside ∙ rw (← is, ← add-one) refl
 
 -- the first command is what it writes, and what comes behind it unless it met the damage
-pub text_step : (key : List ℕ) (job : Job) (fault : Option CaptureFault) (packets : List Packet) (taken next : ℕ) (commands : List Command) (index : ℕ) (command : Command)
+pub text_step : (hash_key : List ℕ) (job : Job) (fault : Option CaptureFault) (packets : List Packet) (taken next : ℕ) (commands : List Command) (index : ℕ) (command : Command)
     → index < length commands → command ≡ get_or commands index command → next ≡ taken + length (taken_by (state_at job packets taken) command)
-    → text_from key job fault (state_at job packets taken) (drop index commands)
-    ≡ written key job fault (state_at job packets taken) command
-    ++ (if meets (state_at job packets taken) fault command then [] else text_from key job fault (state_at job packets next) (drop (index + 1) commands))
-text_step key job fault packets taken next commands index command inside is e =
+    → text_from hash_key job fault (state_at job packets taken) (drop index commands)
+    ≡ written hash_key job fault (state_at job packets taken) command
+    ++ (if meets (state_at job packets taken) fault command then [] else text_from hash_key job fault (state_at job packets next) (drop (index + 1) commands))
+text_step hash_key job fault packets taken next commands index command inside is e =
     rw (rest_is commands index command inside is)
-    (ap (λ s. written key job fault (state_at job packets taken) command
-    ++ (if meets (state_at job packets taken) fault command then [] else text_from key job fault s (drop (index + 1) commands)))
+    (ap (λ s. written hash_key job fault (state_at job packets taken) command
+    ++ (if meets (state_at job packets taken) fault command then [] else text_from hash_key job fault s (drop (index + 1) commands)))
     (after_step job packets taken next command e))
 
-pub calls_step : (key : List ℕ) (job : Job) (fault : Option CaptureFault) (packets : List Packet) (taken next : ℕ) (commands : List Command) (index : ℕ) (command : Command)
+pub calls_step : (hash_key : List ℕ) (job : Job) (fault : Option CaptureFault) (packets : List Packet) (taken next : ℕ) (commands : List Command) (index : ℕ) (command : Command)
     → index < length commands → command ≡ get_or commands index command → next ≡ taken + length (taken_by (state_at job packets taken) command)
-    → calls_from key job fault (state_at job packets taken) (drop index commands)
-    ≡ calls_of key job (state_at job packets taken) command
-    ++ (if meets (state_at job packets taken) fault command then [] else calls_from key job fault (state_at job packets next) (drop (index + 1) commands))
-calls_step key job fault packets taken next commands index command inside is e =
+    → calls_from hash_key job fault (state_at job packets taken) (drop index commands)
+    ≡ calls_of hash_key job (state_at job packets taken) command
+    ++ (if meets (state_at job packets taken) fault command then [] else calls_from hash_key job fault (state_at job packets next) (drop (index + 1) commands))
+calls_step hash_key job fault packets taken next commands index command inside is e =
     rw (rest_is commands index command inside is)
-    (ap (λ s. calls_of key job (state_at job packets taken) command
-    ++ (if meets (state_at job packets taken) fault command then [] else calls_from key job fault s (drop (index + 1) commands)))
+    (ap (λ s. calls_of hash_key job (state_at job packets taken) command
+    ++ (if meets (state_at job packets taken) fault command then [] else calls_from hash_key job fault s (drop (index + 1) commands)))
     (after_step job packets taken next command e))
 
 state_step : (job : Job) (fault : Option CaptureFault) (packets : List Packet) (taken next : ℕ) (commands : List Command) (index : ℕ) (command : Command)
@@ -137,7 +137,7 @@ calls_front before mid now all calls piece rest is far grows =
     record { rest = rest; so_far = more_came before mid now all piece rest (subst (λ l. CameSoFar before all l mid) is far) grows }
 
 -- how a command that stopped leaves the run
-pub sent_stop : (halt : Halt) (a b : Option Cells) (before mid now : Option (List ℕ)) (all text piece more : List ℕ) (met : Bool) → IsToldBefore a b
+pub sent_stop : (halt : Halt) (a b : Option Contents) (before mid now : Option (List ℕ)) (all text piece more : List ℕ) (met : Bool) → IsToldBefore a b
     → text ≡ piece ++ (if met then [] else more) → MeetsAs {T = ℕ} met (Err halt) → IfSome a (λ _. CameSoFar before all text mid)
     → IfSome b (λ _. SendsBy {T = ℕ} mid piece (Err halt) now) → IfSome b (λ _. SendsBy {T = Unit {0}} before all (Err halt) now)
 sent_stop stop a None before mid now all text piece more met told is meets_as far sends = tt
@@ -159,36 +159,36 @@ calls_stop (halts.Damage fault) before mid now all calls piece more met is meets
 calls_stop halts.Output before mid now all calls piece more met is meets_as far grows = calls_front before mid now all calls piece (if met then [] else more) is far grows
 calls_stop halts.Device before mid now all calls piece more met is meets_as far grows = calls_front before mid now all calls piece (if met then [] else more) is far grows
 
-pub lays_stop : (halt : Halt) (cells : Option Cells) (key : List ℕ) (job : Job) (packets : List Packet) (next : ℕ) (met : Bool) (here last : State)
+pub lays_stop : (halt : Halt) (cells : Option Contents) (hash_key : List ℕ) (job : Job) (packets : List Packet) (next : ℕ) (met : Bool) (here last : State)
     → MeetsAs {T = ℕ} met (Err halt) → (met ≡ true → here ≡ state_at job packets next) → here ≡ last
-    → LaysBy {T = ℕ} key job (matched job (take next packets)) (Err halt) cells → LaysBy {T = Unit {0}} key job last.past (Err halt) cells
-lays_stop (halts.Damage fault) cells key job packets next met here last meets_as place same lays =
-    subst (λ (s : State). IfSome cells (AreCells key job s.past)) (sym (place meets_as) ∙ same) lays
-lays_stop halts.Output cells key job packets next met here last meets_as place same lays = tt
-lays_stop halts.Device cells key job packets next met here last meets_as place same lays = tt
+    → LaysBy {T = ℕ} hash_key job (matched job (take next packets)) (Err halt) cells → LaysBy {T = Unit {0}} hash_key job last.counted_packets (Err halt) cells
+lays_stop (halts.Damage fault) cells hash_key job packets next met here last meets_as place same lays =
+    subst (λ (s : State). IfSome cells (AreCells hash_key job s.counted_packets)) (sym (place meets_as) ∙ same) lays
+lays_stop halts.Output cells hash_key job packets next met here last meets_as place same lays = tt
+lays_stop halts.Device cells hash_key job packets next met here last meets_as place same lays = tt
 
 pub faults_stop : (halt : Halt) (ob on rb rn : ℕ) (fault here last : Option CaptureFault) (met : Bool)
-    → MeetsAs {T = ℕ} met (Err halt) → (met ≡ true → here ≡ fault) → here ≡ last → HasCause ob on rb rn fault halt → FaultsBy {T = Unit {0}} last (Err halt)
+    → MeetsAs {T = ℕ} met (Err halt) → (met ≡ true → here ≡ fault) → here ≡ last → HaltHasCause ob on rb rn fault halt → FaultsBy {T = Unit {0}} last (Err halt)
 faults_stop (halts.Damage found) ob on rb rn fault here last met meets_as place same cause = sym same ∙ (place meets_as ∙ cause)
 faults_stop halts.Output ob on rb rn fault here last met meets_as place same cause = tt
 faults_stop halts.Device ob on rb rn fault here last met meets_as place same cause = tt
 
-pub sent_more : (a b : Option Cells) (before mid now : Option (List ℕ)) (all text piece rest : List ℕ) → IsToldBefore a b → text ≡ piece ++ rest
+pub sent_more : (a b : Option Contents) (before mid now : Option (List ℕ)) (all text piece rest : List ℕ) → IsToldBefore a b → text ≡ piece ++ rest
     → IfSome a (λ _. CameSoFar before all text mid) → IfSome b (λ _. Grows mid piece now) → IfSome b (λ _. CameSoFar before all rest now)
 sent_more a None before mid now all text piece rest told is far grows = tt
 sent_more None (Some y) before mid now all text piece rest told is far grows = absurd told
 sent_more (Some x) (Some y) before mid now all text piece rest told is far grows =
     more_came before mid now all piece rest (subst (λ t. CameSoFar before all t mid) is far) grows
 
-pub told_same : (a : Option Cells) → IsToldBefore a a
+pub told_same : (a : Option Contents) → IsToldBefore a a
 told_same None = tt
 told_same (Some x) = tt
 
-pub sent_none : (a : Option Cells) (out : Option (List ℕ)) (text : List ℕ) → IfSome a (λ _. CameSoFar out text text out)
+pub sent_none : (a : Option Contents) (out : Option (List ℕ)) (text : List ℕ) → IfSome a (λ _. CameSoFar out text text out)
 sent_none None out text = tt
 sent_none (Some x) out text = none_came out out text (stays_same out)
 
-pub sent_all : (a : Option Cells) (before now : Option (List ℕ)) (all rest : List ℕ) → rest ≡ [] → IfSome a (λ _. CameSoFar before all rest now) → IfSome a (λ _. Grows before all now)
+pub sent_all : (a : Option Contents) (before now : Option (List ℕ)) (all rest : List ℕ) → rest ≡ [] → IfSome a (λ _. CameSoFar before all rest now) → IfSome a (λ _. Grows before all now)
 sent_all None before now all rest none far = tt
 sent_all (Some x) before now all rest none far = all_came before now all (subst (λ l. CameSoFar before all l now) none far)
 
@@ -199,18 +199,18 @@ pub calls_more : (before mid now : Option (List Call)) (all calls piece rest : L
     → CameSoFar before all calls mid → Grows mid piece now → CameSoFar before all rest now
 calls_more before mid now all calls piece rest is far grows = more_came before mid now all piece rest (subst (λ l. CameSoFar before all l mid) is far) grows
 
-pub cells_last : (a : Option Cells) (key : List ℕ) (job : Job) (fault : Option CaptureFault) (packets : List Packet) (taken : ℕ) (commands behind : List Command) → behind ≡ []
+pub cells_last : (a : Option Contents) (hash_key : List ℕ) (job : Job) (fault : Option CaptureFault) (packets : List Packet) (taken : ℕ) (commands behind : List Command) → behind ≡ []
     → state_from job fault (state_at job packets taken) behind ≡ state_from job fault (start packets) commands
-    → IfSome a (AreCells key job (matched job (take taken packets))) → IfSome a (AreCells key job (state_from job fault (start packets) commands).past)
-cells_last None key job fault packets taken commands behind none last cells = tt
-cells_last (Some x) key job fault packets taken commands behind none last cells =
+    → IfSome a (AreCells hash_key job (matched job (take taken packets))) → IfSome a (AreCells hash_key job (state_from job fault (start packets) commands).counted_packets)
+cells_last None hash_key job fault packets taken commands behind none last cells = tt
+cells_last (Some x) hash_key job fault packets taken commands behind none last cells =
     let same : state_at job packets taken ≡ state_from job fault (start packets) commands =
     ap (state_from job fault (state_at job packets taken)) (sym none) ∙ last in
-    subst (λ (s : State). AreCells key job s.past x) same cells
+    subst (λ (s : State). AreCells hash_key job s.counted_packets x) same cells
 
 -- a fault that came later has its cause since before
 pub cause_later : (ob om on rb rm rn : ℕ) (fault : Option CaptureFault) (halt : Halt) → ob ≤ om → rb ≤ rm
-    → HasCause om on rm rn fault halt → HasCause ob on rb rn fault halt
+    → HaltHasCause om on rm rn fault halt → HaltHasCause ob on rb rn fault halt
 cause_later ob om on rb rm rn fault halts.Output out regs cause = omega arith
 cause_later ob om on rb rm rn fault halts.Device out regs cause = omega arith
 cause_later ob om on rb rm rn fault (halts.Damage met) out regs cause = cause

@@ -1,4 +1,4 @@
--- What the carrying out of commands leaves, where the registers tell their contents.
+-- What the carrying out of commands leaves, where the registers read_out their contents.
 use Rattle.std.specs.Prelude.{◌≡◌, ℕ, Bool, true, false, List, Option, None, Some, IfSome, Result, Ok, Err}
 use Rattle.outside.specs.Faults.{Rose}
 use Rattle.outside.specs.Told.{Told, Grows}
@@ -6,10 +6,10 @@ use Rattle.outside.specs.Sent.{CameInFront, CameInPart}
 use Rattle.capture_read.specs.declared.records.CaptureFault.{CaptureFault}
 use Rattle.pkt_headers.specs.declared.packets.Packet.{Packet}
 use Rattle.reg_file.specs.declared.traits.Call.{Call}
-use Rattle.reg_file.specs.Registers.{Cells}
+use Rattle.reg_file.specs.Registers.{Contents}
 use Rattle.readout.specs.declared.faults.ReadFault.{ReadFault}
 use Rattle.readout.specs.declared.faults.ReadFault.TheVariants as reads
-use Rattle.readout.specs.Standings.{Standing}
+use Rattle.readout.specs.PlacedTasks.{PlacedTask}
 use Rattle.flymon_engine.specs.Cells.{AreCells}
 use Rattle.flymon_engine.specs.Lines.{refused_line}
 use Rattle.flymon_engine.specs.Script.{Job}
@@ -17,15 +17,15 @@ use Rattle.flymon_engine.specs.declared.stop.Halt.{Halt}
 use Rattle.flymon_engine.specs.declared.stop.Halt.TheVariants as halts
 
 -- contents that are told were told before
-abbrev pub IsToldBefore : Option Cells → Option Cells → Type 0
+abbrev pub IsToldBefore : Option Contents → Option Contents → Type 0
 IsToldBefore = Told (λ old new. Unit {0})
 
 -- A fault of the output or of the registers has its cause, by the counts of the two before and after; the damage of the
 -- capture is the one that its packets end with.
-abbrev pub HasCause : (out_before out_now regs_before regs_now : ℕ) → Option CaptureFault → Halt → Type 0
-HasCause out_before out_now regs_before regs_now fault halts.Output = Rose out_before out_now
-HasCause out_before out_now regs_before regs_now fault halts.Device = Rose regs_before regs_now
-HasCause out_before out_now regs_before regs_now fault (halts.Damage met) = fault ≡ Some met
+abbrev pub HaltHasCause : (out_before out_now regs_before regs_now : ℕ) → Option CaptureFault → Halt → Type 0
+HaltHasCause out_before out_now regs_before regs_now fault halts.Output = Rose out_before out_now
+HaltHasCause out_before out_now regs_before regs_now fault halts.Device = Rose regs_before regs_now
+HaltHasCause out_before out_now regs_before regs_now fault (halts.Damage met) = fault ≡ Some met
 
 -- the command was carried out, or met the damage
 abbrev pub MeetsAs : {T : Type 0} → Bool → Result T Halt → Type 0
@@ -49,11 +49,11 @@ CallsBy before all (Err halts.Output) now = CameInFront before all now
 CallsBy before all (Err halts.Device) now = CameInFront before all now
 
 -- the registers are the cells of these packets, also where the damage was met
-abbrev pub LaysBy : {T : Type 0} → List ℕ → Job → List Packet → Result T Halt → Option Cells → Type 0
-LaysBy key job packets (Ok x) now = IfSome now (AreCells key job packets)
-LaysBy key job packets (Err (halts.Damage fault)) now = IfSome now (AreCells key job packets)
-LaysBy key job packets (Err halts.Output) now = Unit {0}
-LaysBy key job packets (Err halts.Device) now = Unit {0}
+abbrev pub LaysBy : {T : Type 0} → List ℕ → Job → List Packet → Result T Halt → Option Contents → Type 0
+LaysBy hash_key job packets (Ok x) now = IfSome now (AreCells hash_key job packets)
+LaysBy hash_key job packets (Err (halts.Damage fault)) now = IfSome now (AreCells hash_key job packets)
+LaysBy hash_key job packets (Err halts.Output) now = Unit {0}
+LaysBy hash_key job packets (Err halts.Device) now = Unit {0}
 
 -- the damage that the script meets stopped it, and nothing else did
 abbrev pub FaultsBy : {T : Type 0} → Option CaptureFault → Result T Halt → Type 0
@@ -63,9 +63,9 @@ FaultsBy met (Err halts.Output) = Unit {0}
 FaultsBy met (Err halts.Device) = Unit {0}
 
 -- the lines of a read-out over the task that was judged, or its refusal
-abbrev pub told_by : List ℕ → List ℕ → (Standing → List ℕ) → Result Standing ReadFault → List ℕ
-told_by word name lines (Ok standing) = lines standing
-told_by word name lines (Err fault) = refused_line word name fault
+abbrev pub reply_over : List ℕ → List ℕ → (PlacedTask → List ℕ) → Result PlacedTask ReadFault → List ℕ
+reply_over word name lines (Ok placed) = lines placed
+reply_over word name lines (Err fault) = refused_line word name fault
 
 -- what stops the run, where the fault of a read-out is no refusal
 abbrev pub halt_of : ReadFault → Option Halt

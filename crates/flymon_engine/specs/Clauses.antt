@@ -1,4 +1,4 @@
--- What a run promises, each promise by cases on its plan, on what is told, and on the status.
+-- What a run promises, each promise by cases on its expected, on what is told, and on the status.
 use Rattle.std.specs.Prelude.{None, Some, ◌≡◌, ℕ, ◌==◌, true, if◌then◌else◌, List, [], ◌++◌, codes, decimal, Option, IfSome, Result, Ok, Err, ◌⊎◌}
 use Rattle.std.specs.List.{list_any}
 use Rattle.std.specs.Str.{bytes_eq}
@@ -6,8 +6,8 @@ use Rattle.outside.specs.Faults.{Rose}
 use Rattle.outside.specs.Told.{Told, Stays, Grows}
 use Rattle.outside.specs.Sent.{CameInFront, CameInPart}
 use Rattle.fm_io.specs.Slots.{Slots}
-use Rattle.fm_io.specs.Names.{Shelf}
-use Rattle.reg_file.specs.Registers.{Cells}
+use Rattle.fm_io.specs.Names.{Directory}
+use Rattle.reg_file.specs.Registers.{Contents}
 use Rattle.reg_file.specs.declared.traits.Call.{Call}
 use Rattle.flymon_engine.specs.declared.status.Status.{Status}
 use Rattle.flymon_engine.specs.declared.status.Status.TheVariants as statuses
@@ -24,10 +24,10 @@ use Rattle.key_mask.specs.declared.keys.FieldKind.TheVariants.{UnknownField, Rep
 use Rattle.task_lang.specs.declared.commands.LineFault.{LineFault}
 use Rattle.task_lang.specs.declared.commands.LineFault.TheVariants as lines
 use Rattle.task_lang.specs.declared.commands.ScriptFault.{ScriptFault}
-use Rattle.flymon_engine.specs.Plan.{Plan, Refused, Misread, Damaged, Carried, word_for, IsFaultPlace}
+use Rattle.flymon_engine.specs.Expected.{Expected, Refused, Misread, Damaged, Carried, word_for, IsFaultPlace}
 use Rattle.flymon_engine.specs.Steps.{text_of, calls_all, counted, fault_met}
 
-abbrev pub IsCarried : Plan → Type 0
+abbrev pub IsCarried : Expected → Type 0
 IsCarried (Refused status) = ⊥
 IsCarried (Misread fault) = ⊥
 IsCarried (Damaged fault) = ⊥
@@ -38,118 +38,118 @@ status_by None = statuses.Done
 status_by (Some fault) = statuses.BadCapture
 
 -- how the run ends if nothing fails
-abbrev pub status_told : Plan → Status
-status_told (Refused status) = status
-status_told (Misread fault) = statuses.BadScript
-status_told (Damaged fault) = statuses.BadCapture
-status_told (Carried script packets fault) = status_by (fault_met script packets fault)
+abbrev pub expected_status : Expected → Status
+expected_status (Refused status) = status
+expected_status (Misread fault) = statuses.BadScript
+expected_status (Damaged fault) = statuses.BadCapture
+expected_status (Carried script packets fault) = status_by (fault_met script packets fault)
 
 -- the damage of the capture that ends the run
-abbrev pub fault_told : Plan → Option CaptureFault
-fault_told (Refused status) = None
-fault_told (Misread fault) = None
-fault_told (Damaged fault) = Some fault
-fault_told (Carried script packets fault) = fault_met script packets fault
+abbrev pub expected_fault : Expected → Option CaptureFault
+expected_fault (Refused status) = None
+expected_fault (Misread fault) = None
+expected_fault (Damaged fault) = Some fault
+expected_fault (Carried script packets fault) = fault_met script packets fault
 
 -- what is wrong with the script
-abbrev pub misread_told : Plan → Option ScriptFault
-misread_told (Refused status) = None
-misread_told (Misread fault) = Some fault
-misread_told (Damaged fault) = None
-misread_told (Carried script packets fault) = None
+abbrev pub expected_misread : Expected → Option ScriptFault
+expected_misread (Refused status) = None
+expected_misread (Misread fault) = Some fault
+expected_misread (Damaged fault) = None
+expected_misread (Carried script packets fault) = None
 
--- what the plan writes, and the operations that it makes
-abbrev pub text_told : List ℕ → Plan → List ℕ
-text_told key (Refused status) = []
-text_told key (Misread fault) = []
-text_told key (Damaged fault) = []
-text_told key (Carried script packets fault) = text_of key script packets fault
+-- what the expected writes, and the operations that it makes
+abbrev pub expected_text : List ℕ → Expected → List ℕ
+expected_text hash_key (Refused status) = []
+expected_text hash_key (Misread fault) = []
+expected_text hash_key (Damaged fault) = []
+expected_text hash_key (Carried script packets fault) = text_of hash_key script packets fault
 
-abbrev pub calls_told : List ℕ → Plan → List Call
-calls_told key (Refused status) = []
-calls_told key (Misread fault) = []
-calls_told key (Damaged fault) = []
-calls_told key (Carried script packets fault) = calls_all key script packets fault
+abbrev pub expected_calls : List ℕ → Expected → List Call
+expected_calls hash_key (Refused status) = []
+expected_calls hash_key (Misread fault) = []
+expected_calls hash_key (Damaged fault) = []
+expected_calls hash_key (Carried script packets fault) = calls_all hash_key script packets fault
 
 -- A status that the words and texts determine comes exactly where they do, unless a fault or want of memory came first.
-abbrev pub IsVerdict : Option Plan → Status → Type 0
-IsVerdict plan statuses.Done = IfSome plan (λ p. status_told p ≡ statuses.Done)
-IsVerdict plan statuses.Usage = IfSome plan (λ p. status_told p ≡ statuses.Usage)
-IsVerdict plan statuses.BadScript = IfSome plan (λ p. status_told p ≡ statuses.BadScript)
-IsVerdict plan statuses.BadCapture = IfSome plan (λ p. status_told p ≡ statuses.BadCapture)
-IsVerdict plan statuses.Unbuilt = IfSome plan (λ p. status_told p ≡ statuses.Unbuilt)
-IsVerdict plan statuses.OutputFault = IfSome plan IsCarried
-IsVerdict plan statuses.DeviceFault = IfSome plan IsCarried
-IsVerdict plan statuses.InputFault = Unit {0}
-IsVerdict plan statuses.Memory = Unit {0}
+abbrev pub IsVerdict : Option Expected → Status → Type 0
+IsVerdict expected statuses.Done = IfSome expected (λ p. expected_status p ≡ statuses.Done)
+IsVerdict expected statuses.Usage = IfSome expected (λ p. expected_status p ≡ statuses.Usage)
+IsVerdict expected statuses.BadScript = IfSome expected (λ p. expected_status p ≡ statuses.BadScript)
+IsVerdict expected statuses.BadCapture = IfSome expected (λ p. expected_status p ≡ statuses.BadCapture)
+IsVerdict expected statuses.Unbuilt = IfSome expected (λ p. expected_status p ≡ statuses.Unbuilt)
+IsVerdict expected statuses.OutputFault = IfSome expected IsCarried
+IsVerdict expected statuses.DeviceFault = IfSome expected IsCarried
+IsVerdict expected statuses.InputFault = Unit {0}
+IsVerdict expected statuses.Memory = Unit {0}
 
 -- Done sends the whole text, and so does BadCapture, whose text ends before the command that met the damage; a fault of the output or the registers a proper front of it, and any other status nothing.
-abbrev pub SendsText : List ℕ → Option Plan → Option Cells → Option (List ℕ) → Status → Option (List ℕ) → Type 0
-SendsText key plan cells before statuses.Done after = IfSome plan (λ p. IfSome cells (λ _. Grows before (text_told key p) after))
-SendsText key plan cells before statuses.BadCapture after = IfSome plan (λ p. IfSome cells (λ _. Grows before (text_told key p) after))
-SendsText key plan cells before statuses.OutputFault after = IfSome plan (λ p. IfSome cells (λ _. CameInPart before (text_told key p) after))
-SendsText key plan cells before statuses.DeviceFault after = IfSome plan (λ p. IfSome cells (λ _. CameInPart before (text_told key p) after))
-SendsText key plan cells before statuses.Usage after = Stays before after
-SendsText key plan cells before statuses.BadScript after = Stays before after
-SendsText key plan cells before statuses.Unbuilt after = Stays before after
-SendsText key plan cells before statuses.InputFault after = Stays before after
-SendsText key plan cells before statuses.Memory after = Stays before after
+abbrev pub SendsText : List ℕ → Option Expected → Option Contents → Option (List ℕ) → Status → Option (List ℕ) → Type 0
+SendsText hash_key expected cells before statuses.Done after = IfSome expected (λ p. IfSome cells (λ _. Grows before (expected_text hash_key p) after))
+SendsText hash_key expected cells before statuses.BadCapture after = IfSome expected (λ p. IfSome cells (λ _. Grows before (expected_text hash_key p) after))
+SendsText hash_key expected cells before statuses.OutputFault after = IfSome expected (λ p. IfSome cells (λ _. CameInPart before (expected_text hash_key p) after))
+SendsText hash_key expected cells before statuses.DeviceFault after = IfSome expected (λ p. IfSome cells (λ _. CameInPart before (expected_text hash_key p) after))
+SendsText hash_key expected cells before statuses.Usage after = Stays before after
+SendsText hash_key expected cells before statuses.BadScript after = Stays before after
+SendsText hash_key expected cells before statuses.Unbuilt after = Stays before after
+SendsText hash_key expected cells before statuses.InputFault after = Stays before after
+SendsText hash_key expected cells before statuses.Memory after = Stays before after
 
 -- the first calls of all
 pub record IsFront (calls all : List Call) : Type 0 where
   pub rest : List Call
   pub whole : calls ++ rest ≡ all
 
--- the list is that of the plan; where the header of the capture is bad no operation was made
-abbrev pub MakesAll : List ℕ → Plan → Option (List Call) → Option (List Call) → Type 0
-MakesAll key (Refused status) before after = Stays before after
-MakesAll key (Misread fault) before after = Stays before after
-MakesAll key (Damaged fault) before after = Stays before after
-MakesAll key (Carried script packets fault) before after = Told (λ old now. now ≡ calls_all key script packets fault) before after
+-- the list is that of the expected; where the header of the capture is bad no operation was made
+abbrev pub MakesAll : List ℕ → Expected → Option (List Call) → Option (List Call) → Type 0
+MakesAll hash_key (Refused status) before after = Stays before after
+MakesAll hash_key (Misread fault) before after = Stays before after
+MakesAll hash_key (Damaged fault) before after = Stays before after
+MakesAll hash_key (Carried script packets fault) before after = Told (λ old now. now ≡ calls_all hash_key script packets fault) before after
 
--- On Done and BadCapture the list of operations is the plan's (none where the header is bad), on a fault of the output or the registers a front of it, and any
+-- On Done and BadCapture the list of operations is the expected's (none where the header is bad), on a fault of the output or the registers a front of it, and any
 -- other status made none: the list is as it was, or empty where the registers were shaped.
-abbrev pub MakesCalls : List ℕ → Option Plan → Option (List Call) → Status → Option (List Call) → Type 0
-MakesCalls key plan before statuses.Done after = IfSome plan (λ p. Told (λ old now. now ≡ calls_told key p) before after)
-MakesCalls key plan before statuses.BadCapture after = IfSome plan (λ p. MakesAll key p before after)
-MakesCalls key plan before statuses.OutputFault after = IfSome plan (λ p. Told (λ old now. IsFront now (calls_told key p)) before after)
-MakesCalls key plan before statuses.DeviceFault after = IfSome plan (λ p. Told (λ old now. IsFront now (calls_told key p)) before after)
-MakesCalls key plan before statuses.Memory after = Told (λ old now. (now ≡ old) ⊎ (now ≡ [])) before after
-MakesCalls key plan before statuses.Usage after = Stays before after
-MakesCalls key plan before statuses.BadScript after = Stays before after
-MakesCalls key plan before statuses.Unbuilt after = Stays before after
-MakesCalls key plan before statuses.InputFault after = Stays before after
+abbrev pub MakesCalls : List ℕ → Option Expected → Option (List Call) → Status → Option (List Call) → Type 0
+MakesCalls hash_key expected before statuses.Done after = IfSome expected (λ p. Told (λ old now. now ≡ expected_calls hash_key p) before after)
+MakesCalls hash_key expected before statuses.BadCapture after = IfSome expected (λ p. MakesAll hash_key p before after)
+MakesCalls hash_key expected before statuses.OutputFault after = IfSome expected (λ p. Told (λ old now. IsFront now (expected_calls hash_key p)) before after)
+MakesCalls hash_key expected before statuses.DeviceFault after = IfSome expected (λ p. Told (λ old now. IsFront now (expected_calls hash_key p)) before after)
+MakesCalls hash_key expected before statuses.Memory after = Told (λ old now. (now ≡ old) ⊎ (now ≡ [])) before after
+MakesCalls hash_key expected before statuses.Usage after = Stays before after
+MakesCalls hash_key expected before statuses.BadScript after = Stays before after
+MakesCalls hash_key expected before statuses.Unbuilt after = Stays before after
+MakesCalls hash_key expected before statuses.InputFault after = Stays before after
 
 -- the registers hold the task's cells
-abbrev pub HoldsCells : List ℕ → Plan → Cells → Type 0
-HoldsCells key (Refused status) registers = Unit {0}
-HoldsCells key (Misread fault) registers = Unit {0}
-HoldsCells key (Damaged fault) registers = Unit {0}
-HoldsCells key (Carried script packets fault) registers = AreCells key script.job (counted script packets fault) registers
+abbrev pub HoldsCells : List ℕ → Expected → Contents → Type 0
+HoldsCells hash_key (Refused status) registers = Unit {0}
+HoldsCells hash_key (Misread fault) registers = Unit {0}
+HoldsCells hash_key (Damaged fault) registers = Unit {0}
+HoldsCells hash_key (Carried script packets fault) registers = AreCells hash_key script.job (counted script packets fault) registers
 
 -- on Done and BadCapture the registers are laid out for the state that the script leaves, up to the damage
-abbrev pub LaysOut : List ℕ → Option Plan → Status → Option Cells → Type 0
-LaysOut key plan statuses.Done cells = IfSome plan (λ p. IfSome cells (HoldsCells key p))
-LaysOut key plan statuses.BadCapture cells = IfSome plan (λ p. IfSome cells (HoldsCells key p))
-LaysOut key plan statuses.OutputFault cells = Unit {0}
-LaysOut key plan statuses.DeviceFault cells = Unit {0}
-LaysOut key plan statuses.Memory cells = Unit {0}
-LaysOut key plan statuses.Usage cells = Unit {0}
-LaysOut key plan statuses.BadScript cells = Unit {0}
-LaysOut key plan statuses.Unbuilt cells = Unit {0}
-LaysOut key plan statuses.InputFault cells = Unit {0}
+abbrev pub LaysOut : List ℕ → Option Expected → Status → Option Contents → Type 0
+LaysOut hash_key expected statuses.Done cells = IfSome expected (λ p. IfSome cells (HoldsCells hash_key p))
+LaysOut hash_key expected statuses.BadCapture cells = IfSome expected (λ p. IfSome cells (HoldsCells hash_key p))
+LaysOut hash_key expected statuses.OutputFault cells = Unit {0}
+LaysOut hash_key expected statuses.DeviceFault cells = Unit {0}
+LaysOut hash_key expected statuses.Memory cells = Unit {0}
+LaysOut hash_key expected statuses.Usage cells = Unit {0}
+LaysOut hash_key expected statuses.BadScript cells = Unit {0}
+LaysOut hash_key expected statuses.Unbuilt cells = Unit {0}
+LaysOut hash_key expected statuses.InputFault cells = Unit {0}
 
 -- a file failed in its place in the order of the opening
-abbrev pub IsInPlace : Form → Shelf → Slots → ℕ → Status → Type 0
-IsInPlace form shelf slots last statuses.InputFault = IsFaultPlace form shelf slots last
-IsInPlace form shelf slots last statuses.Done = Unit {0}
-IsInPlace form shelf slots last statuses.BadCapture = Unit {0}
-IsInPlace form shelf slots last statuses.Usage = Unit {0}
-IsInPlace form shelf slots last statuses.BadScript = Unit {0}
-IsInPlace form shelf slots last statuses.Unbuilt = Unit {0}
-IsInPlace form shelf slots last statuses.OutputFault = Unit {0}
-IsInPlace form shelf slots last statuses.DeviceFault = Unit {0}
-IsInPlace form shelf slots last statuses.Memory = Unit {0}
+abbrev pub IsInPlace : Form → Directory → Slots → ℕ → Status → Type 0
+IsInPlace form directory slots last statuses.InputFault = IsFaultPlace form directory slots last
+IsInPlace form directory slots last statuses.Done = Unit {0}
+IsInPlace form directory slots last statuses.BadCapture = Unit {0}
+IsInPlace form directory slots last statuses.Usage = Unit {0}
+IsInPlace form directory slots last statuses.BadScript = Unit {0}
+IsInPlace form directory slots last statuses.Unbuilt = Unit {0}
+IsInPlace form directory slots last statuses.OutputFault = Unit {0}
+IsInPlace form directory slots last statuses.DeviceFault = Unit {0}
+IsInPlace form directory slots last statuses.Memory = Unit {0}
 
 -- No name that is not there was attached, unless the status is an input fault and the word for the slot of the last
 -- failed call is such a name.
@@ -196,7 +196,7 @@ line_words lines.Words = codes "words\n"
 line_words lines.Name = codes "name\n"
 line_words lines.Kind = codes "kind\n"
 line_words lines.Rows = codes "rows\n"
-line_words (lines.Key fault) = item_words (codes "key ") fault
+line_words (lines.Key fault) = item_words (codes "hash_key ") fault
 line_words lines.Attr = codes "attr\n"
 line_words (lines.Filter fault) = item_words (codes "filter ") fault
 line_words lines.Size = codes "size\n"
@@ -222,39 +222,39 @@ pub record SendsMessage (message : List ℕ) (faults now : ℕ) (before after : 
   pub front : CameInFront before message after
   pub whole : (Rose faults now → ⊥) → Grows before message after
 
--- the message of the damage that the plan tells
-abbrev pub SendsDamage : Plan → ℕ → ℕ → Option (List ℕ) → Option (List ℕ) → Type 0
-SendsDamage plan faults now before after = IfSome (fault_told plan) (λ fault. SendsMessage (message_of (stops.Capture fault)) faults now before after)
+-- the message of the damage that the expected tells
+abbrev pub SendsDamage : Expected → ℕ → ℕ → Option (List ℕ) → Option (List ℕ) → Type 0
+SendsDamage expected faults now before after = IfSome (expected_fault expected) (λ fault. SendsMessage (message_of (stops.Capture fault)) faults now before after)
 
--- the message of the fault of the script that the plan tells
-abbrev pub SendsMisread : Plan → ℕ → ℕ → Option (List ℕ) → Option (List ℕ) → Type 0
-SendsMisread plan faults now before after = IfSome (misread_told plan) (λ fault. SendsMessage (message_of (stops.Script fault)) faults now before after)
+-- the message of the fault of the script that the expected tells
+abbrev pub SendsMisread : Expected → ℕ → ℕ → Option (List ℕ) → Option (List ℕ) → Type 0
+SendsMisread expected faults now before after = IfSome (expected_misread expected) (λ fault. SendsMessage (message_of (stops.Script fault)) faults now before after)
 
 -- Done sends no message, and every other status its own: that of an input fault names the slot of the last failed call,
 -- that of a bad script its first fault, and that of a bad capture the damage.
-abbrev pub SendsReport : Option Plan → ℕ → Status → ℕ → ℕ → Option (List ℕ) → Option (List ℕ) → Type 0
-SendsReport plan last statuses.Done faults now before after = SendsMessage [] faults now before after
-SendsReport plan last statuses.Usage faults now before after = SendsMessage (message_of stops.Usage) faults now before after
-SendsReport plan last statuses.BadScript faults now before after = IfSome plan (λ p. SendsMisread p faults now before after)
-SendsReport plan last statuses.BadCapture faults now before after = IfSome plan (λ p. SendsDamage p faults now before after)
-SendsReport plan last statuses.InputFault faults now before after = SendsMessage (message_of (stops.Input last)) faults now before after
-SendsReport plan last statuses.OutputFault faults now before after = SendsMessage (message_of stops.Output) faults now before after
-SendsReport plan last statuses.DeviceFault faults now before after = SendsMessage (message_of stops.Device) faults now before after
-SendsReport plan last statuses.Memory faults now before after = SendsMessage (message_of stops.Memory) faults now before after
-SendsReport plan last statuses.Unbuilt faults now before after = SendsMessage (message_of stops.Unbuilt) faults now before after
+abbrev pub SendsReport : Option Expected → ℕ → Status → ℕ → ℕ → Option (List ℕ) → Option (List ℕ) → Type 0
+SendsReport expected last statuses.Done faults now before after = SendsMessage [] faults now before after
+SendsReport expected last statuses.Usage faults now before after = SendsMessage (message_of stops.Usage) faults now before after
+SendsReport expected last statuses.BadScript faults now before after = IfSome expected (λ p. SendsMisread p faults now before after)
+SendsReport expected last statuses.BadCapture faults now before after = IfSome expected (λ p. SendsDamage p faults now before after)
+SendsReport expected last statuses.InputFault faults now before after = SendsMessage (message_of (stops.Input last)) faults now before after
+SendsReport expected last statuses.OutputFault faults now before after = SendsMessage (message_of stops.Output) faults now before after
+SendsReport expected last statuses.DeviceFault faults now before after = SendsMessage (message_of stops.Device) faults now before after
+SendsReport expected last statuses.Memory faults now before after = SendsMessage (message_of stops.Memory) faults now before after
+SendsReport expected last statuses.Unbuilt faults now before after = SendsMessage (message_of stops.Unbuilt) faults now before after
 
 abbrev pub status_in : {T : Type 0} → Result T Stop → Status
 status_in (Ok x) = statuses.Done
 status_in (Err stop) = status_of stop
 
--- a bad script stopped at the fault that the plan tells, and a bad capture at its damage
-abbrev pub StopsAs : {T : Type 0} → Option Plan → Result T Stop → Type 0
-StopsAs plan (Ok x) = Unit {0}
-StopsAs plan (Err (stops.Script fault)) = IfSome plan (λ p. misread_told p ≡ Some fault)
-StopsAs plan (Err (stops.Capture fault)) = IfSome plan (λ p. fault_told p ≡ Some fault)
-StopsAs plan (Err (stops.Input slot)) = Unit {0}
-StopsAs plan (Err stops.Usage) = Unit {0}
-StopsAs plan (Err stops.Output) = Unit {0}
-StopsAs plan (Err stops.Device) = Unit {0}
-StopsAs plan (Err stops.Memory) = Unit {0}
-StopsAs plan (Err stops.Unbuilt) = Unit {0}
+-- a bad script stopped at the fault that the expected tells, and a bad capture at its damage
+abbrev pub StopsAs : {T : Type 0} → Option Expected → Result T Stop → Type 0
+StopsAs expected (Ok x) = Unit {0}
+StopsAs expected (Err (stops.Script fault)) = IfSome expected (λ p. expected_misread p ≡ Some fault)
+StopsAs expected (Err (stops.Capture fault)) = IfSome expected (λ p. expected_fault p ≡ Some fault)
+StopsAs expected (Err (stops.Input slot)) = Unit {0}
+StopsAs expected (Err stops.Usage) = Unit {0}
+StopsAs expected (Err stops.Output) = Unit {0}
+StopsAs expected (Err stops.Device) = Unit {0}
+StopsAs expected (Err stops.Memory) = Unit {0}
+StopsAs expected (Err stops.Unbuilt) = Unit {0}

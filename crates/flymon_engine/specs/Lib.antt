@@ -6,8 +6,8 @@ pub mod Frames
 pub mod Lines
 pub mod Live
 pub mod Opening
-pub mod Plan
+pub mod Expected
 pub mod Script
-pub mod Seen
+pub mod Views
 pub mod Steps
 pub mod Words

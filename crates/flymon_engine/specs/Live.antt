@@ -1,11 +1,11 @@
 -- The live task as the engine keeps it, and what the operations of one packet change.
 use Rattle.std.specs.Prelude.{◌≡◌, ℕ, ◌^◌, ◌<◌, ◌++◌, ◌∷◌, [], List, slice_index, nat_lt, ◌-◌, ◌/◌, ◌==◌, ◌&&◌, Option, None, Some, if◌then◌else◌}
 use Rattle.pkt_headers.specs.declared.packets.Packet.{Packet}
-use Rattle.reg_file.specs.Registers.{Cells, MakesCall}
-use Rattle.sketch_defs.specs.Cells.{cell_max, place_at, cells_of, row_of}
+use Rattle.reg_file.specs.Registers.{Contents, MakesCall}
+use Rattle.sketch_defs.specs.Cells.{cell_max, index_at, cells_of, row_of}
 use Rattle.sketch_lower.specs.Operations.{operation_at, start_of}
-use Rattle.addr_translate.specs.Plans.{arrays_before}
-use Rattle.flymon_engine.specs.Cells.{array_size, default_plan}
+use Rattle.addr_translate.specs.Geometry.{arrays_before}
+use Rattle.flymon_engine.specs.Cells.{array_size, default_geometry}
 use Rattle.flymon_engine.specs.declared.task.LiveTask.{LiveTask}
 use Rattle.task_lang.specs.declared.commands.Command.{Command}
 use Rattle.flymon_engine.specs.Script.{Job, Script}
@@ -14,22 +14,22 @@ abbrev pub job_at : LiveTask → Job
 job_at live = record { task = live.task; bits = live.bits }
 
 -- the registers of the first rows hold the start value
-abbrev pub HoldStart : Job → ℕ → Cells → Type 0
+abbrev pub HoldStart : Job → ℕ → Contents → Type 0
 HoldStart job rows registers = (row index : ℕ) → row < rows → index < 2 ^ job.bits → registers row index ≡ start_of job.task.kind
 
 -- a packet made its operation in a row
-pub record Touches (key : List ℕ) (job : Job) (row : ℕ) (packet : Packet) (old new : Cells) : Type 0 where
+pub record Touches (hash_key : List ℕ) (job : Job) (row : ℕ) (packet : Packet) (old new : Contents) : Type 0 where
   pub answer : ℕ
-  pub made : MakesCall row (place_at key job.task job.bits row packet) (operation_at key job.task job.bits row packet cell_max) answer old new
+  pub made : MakesCall row (index_at hash_key job.task job.bits row packet) (operation_at hash_key job.task job.bits row packet cell_max) answer old new
 
 -- a packet passed the first rows, and the others hold the cells before it
-abbrev pub ArePassed : List ℕ → Job → List Packet → Packet → ℕ → Cells → Type 0
-ArePassed key job past packet done registers = (row index : ℕ) → row < job.task.rows → index < 2 ^ job.bits
-    → registers row index ≡ slice_index (row_of (cells_of key job.task job.bits (if nat_lt row done then past ++ packet ∷ [] else past)) row) index
+abbrev pub ArePassed : List ℕ → Job → List Packet → Packet → ℕ → Contents → Type 0
+ArePassed hash_key job counted_packets packet done registers = (row index : ℕ) → row < job.task.rows → index < 2 ^ job.bits
+    → registers row index ≡ slice_index (row_of (cells_of hash_key job.task job.bits (if nat_lt row done then counted_packets ++ packet ∷ [] else counted_packets)) row) index
 
 -- the first unit of a group with a row has the task's key, and every other unit is free
 abbrev pub mask_at : Job → ℕ → ℕ → Option (List ℕ)
-mask_at job group unit = if unit == 0 && nat_lt (arrays_before default_plan group) job.task.rows then Some job.task.key else None
+mask_at job group unit = if unit == 0 && nat_lt (arrays_before default_geometry group) job.task.rows then Some job.task.key else None
 
 -- the registers of an array that are in no partition
 abbrev pub free_at : Job → ℕ → ℕ

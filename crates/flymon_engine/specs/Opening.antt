@@ -64,7 +64,7 @@ IsFileStop stops.Device = ⊥
 
 -- where the slot is attached and told, at most so many bytes of it were read
 abbrev pub IsWithin : ℕ → Slot → Type 0
-IsWithin limit slot = slot.attached ≡ true → IfSome slot.tape (λ tape. tape.at ≤ limit)
+IsWithin limit slot = slot.attached ≡ true → IfSome slot.cursor (λ cursor. cursor.at ≤ limit)
 
 -- a fault left the slot within its limit
 abbrev pub StopsWithin : ℕ → Slot → Stop → Type 0

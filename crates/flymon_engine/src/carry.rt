@@ -3,11 +3,11 @@ ghost use Rattle.std.specs.Prelude.{◌≡◌, ℕ, List, [], ◌∷◌, ◌++�
 ghost use Rattle.std.specs.List.{flat_map, list_all};
 ghost use Rattle.outside.specs.Told.{Stays, Grows};
 ghost use Rattle.outside.specs.Sent.{CameInPart};
-ghost use Rattle.readout.specs.Standings.{IsShaped};
+ghost use Rattle.readout.specs.PlacedTasks.{IsShaped};
 ghost use Rattle.flymon_engine.specs.Script.{is_served};
-ghost use Rattle.flymon_engine.specs.Cells.{AreCells, default_plan};
+ghost use Rattle.flymon_engine.specs.Cells.{AreCells, default_geometry};
 ghost use Rattle.flymon_engine.specs.Lines.{added_line, packets_line};
-ghost use Rattle.flymon_engine.specs.Carrying.{IsToldBefore, HasCause, MeetsAs, SendsBy, CallsBy, LaysBy, FaultsBy};
+ghost use Rattle.flymon_engine.specs.Carrying.{IsToldBefore, HaltHasCause, MeetsAs, SendsBy, CallsBy, LaysBy, FaultsBy};
 ghost use Rattle.flymon_engine.specs.Live.{job_at, script_at, HoldStart};
 ghost use Rattle.flymon_engine.specs.Steps.{matched, calls_on, calls_of, asked_for, taken_by, most_packets, start, state_at, meets, written, state_from, calls_from, text_from, fault_from, calls_all, text_of, counted, fault_met};
 
@@ -15,7 +15,7 @@ use crate::frames::Frames;
 use crate::lines::{line_added, line_packets, send};
 use crate::stop::Halt;
 use crate::task::LiveTask;
-use crate::telling::tell;
+use crate::reading_out::read_out;
 use capture_read::CaptureFault;
 use fm_io::Sink;
 use pkt_headers::Packet;
@@ -32,18 +32,18 @@ pub(crate) fn carry_all<R: RegFile, O: Sink>(
     regs: &mut R,
     out: &mut O,
 ) -> Result<(), Halt>
-    requires shaped { IsShaped default_plan (R.dims regs.old) }
+    requires shaped { IsShaped default_geometry (R.dims regs.old) }
     requires room { live.now.bits ≤ reader.old }
     requires served { list_all is_served commands.now ≡ true }
     ensures later { O.faults out.old ≤ O.faults out.new }
     ensures regs_later { R.faults regs.old ≤ R.faults regs.new }
-    ensures cause { IfErr result (HasCause (O.faults out.old) (O.faults out.new) (R.faults regs.old) (R.faults regs.new) frames.now.fault) }
-    ensures cells { LaysBy live.now.key (job_at live.now)
-        (counted (script_at live.now commands.now) frames.now.packets.items frames.now.fault) result (R.cells regs.new) }
+    ensures cause { IfErr result (HaltHasCause (O.faults out.old) (O.faults out.new) (R.faults regs.old) (R.faults regs.new) frames.now.fault) }
+    ensures contents { LaysBy live.now.hash_key (job_at live.now)
+        (counted (script_at live.now commands.now) frames.now.packets.items frames.now.fault) result (R.contents regs.new) }
     ensures calls { CallsBy (R.calls regs.old)
-        (calls_all live.now.key (script_at live.now commands.now) frames.now.packets.items frames.now.fault) result (R.calls regs.new) }
-    ensures sent { IfSome (R.cells regs.new) (λ _. SendsBy (O.sent out.old)
-        (text_of live.now.key (script_at live.now commands.now) frames.now.packets.items frames.now.fault) result (O.sent out.new)) }
+        (calls_all live.now.hash_key (script_at live.now commands.now) frames.now.packets.items frames.now.fault) result (R.calls regs.new) }
+    ensures sent { IfSome (R.contents regs.new) (λ _. SendsBy (O.sent out.old)
+        (text_of live.now.hash_key (script_at live.now commands.now) frames.now.packets.items frames.now.fault) result (O.sent out.new)) }
     ensures fault { FaultsBy (fault_met (script_at live.now commands.now) frames.now.packets.items frames.now.fault) result }
 {
     match add(live, regs, out) {
@@ -71,19 +71,19 @@ fn carry_commands<R: RegFile, O: Sink>(
     regs: &mut R,
     out: &mut O,
 ) -> Result<(), Halt>
-    requires shaped { IsShaped default_plan (R.dims regs.old) }
+    requires shaped { IsShaped default_geometry (R.dims regs.old) }
     requires room { live.now.bits ≤ reader.old }
     requires served { list_all is_served commands.now ≡ true }
-    requires cells { IfSome (R.cells regs.old) (AreCells live.now.key (job_at live.now) []) }
+    requires cells { IfSome (R.contents regs.old) (AreCells live.now.hash_key (job_at live.now) []) }
     ensures later { O.faults out.old ≤ O.faults out.new }
     ensures regs_later { R.faults regs.old ≤ R.faults regs.new }
-    ensures cause { IfErr result (HasCause (O.faults out.old) (O.faults out.new) (R.faults regs.old) (R.faults regs.new) fault) }
-    ensures told { IsToldBefore (R.cells regs.old) (R.cells regs.new) }
-    ensures cells { LaysBy live.now.key (job_at live.now) (state_from (job_at live.now) fault (start packets.now) commands.now).past result (R.cells regs.new) }
+    ensures cause { IfErr result (HaltHasCause (O.faults out.old) (O.faults out.new) (R.faults regs.old) (R.faults regs.new) fault) }
+    ensures told { IsToldBefore (R.contents regs.old) (R.contents regs.new) }
+    ensures contents { LaysBy live.now.hash_key (job_at live.now) (state_from (job_at live.now) fault (start packets.now) commands.now).counted_packets result (R.contents regs.new) }
     ensures calls { CallsBy (R.calls regs.old)
-        (calls_from live.now.key (job_at live.now) fault (start packets.now) commands.now) result (R.calls regs.new) }
-    ensures sent { IfSome (R.cells regs.new) (λ _. SendsBy (O.sent out.old)
-        (text_from live.now.key (job_at live.now) fault (start packets.now) commands.now) result (O.sent out.new)) }
+        (calls_from live.now.hash_key (job_at live.now) fault (start packets.now) commands.now) result (R.calls regs.new) }
+    ensures sent { IfSome (R.contents regs.new) (λ _. SendsBy (O.sent out.old)
+        (text_from live.now.hash_key (job_at live.now) fault (start packets.now) commands.now) result (O.sent out.new)) }
     ensures fault { FaultsBy (fault_from (job_at live.now) fault (start packets.now) commands.now) result }
 {
     let mut taken = 0;
@@ -99,13 +99,13 @@ fn carry_commands<R: RegFile, O: Sink>(
 /// Puts the start value into the task's cells, and says that the task was added.
 #[tactic(auto, using(outside::proofs::SentLemmas::none_in_part))]
 fn add<R: RegFile, O: Sink>(live: &LiveTask, regs: &mut R, out: &mut O) -> Result<(), Halt>
-    requires { IsShaped default_plan (R.dims regs.old) }
+    requires { IsShaped default_geometry (R.dims regs.old) }
     ensures later { O.faults out.old ≤ O.faults out.new }
     ensures regs_later { R.faults regs.old ≤ R.faults regs.new }
-    ensures cause { IfErr result (HasCause (O.faults out.old) (O.faults out.new) (R.faults regs.old) (R.faults regs.new) None) }
+    ensures cause { IfErr result (HaltHasCause (O.faults out.old) (O.faults out.new) (R.faults regs.old) (R.faults regs.new) None) }
     ensures dims { R.dims regs.new ≡ R.dims regs.old }
-    ensures told { IsToldBefore (R.cells regs.old) (R.cells regs.new) }
-    ensures cells { OnOk result (IfSome (R.cells regs.new) (HoldStart (job_at live.now) live.now.task.rows)) }
+    ensures told { IsToldBefore (R.contents regs.old) (R.contents regs.new) }
+    ensures contents { OnOk result (IfSome (R.contents regs.new) (HoldStart (job_at live.now) live.now.task.rows)) }
     ensures calls { Stays (R.calls regs.old) (R.calls regs.new) }
     ensures sent { OnOk result (Grows (O.sent out.old) (added_line live.now.task.name) (O.sent out.new)) }
     ensures part { OnErr result (CameInPart (O.sent out.old) (added_line live.now.task.name) (O.sent out.new)) }
@@ -120,14 +120,14 @@ fn add<R: RegFile, O: Sink>(live: &LiveTask, regs: &mut R, out: &mut O) -> Resul
 fn pass<R: RegFile>(live: &LiveTask, packets: &[Packet], from: usize, to: usize, regs: &mut R)
     requires from { from ≤ to }
     requires to { to ≤ length packets.now }
-    requires shaped { IsShaped default_plan (R.dims regs.old) }
-    requires cells { IfSome (R.cells regs.old) (AreCells live.now.key (job_at live.now) (matched (job_at live.now) (take from packets.now))) }
+    requires shaped { IsShaped default_geometry (R.dims regs.old) }
+    requires cells { IfSome (R.contents regs.old) (AreCells live.now.hash_key (job_at live.now) (matched (job_at live.now) (take from packets.now))) }
     ensures faults { R.faults regs.new ≡ R.faults regs.old }
     ensures dims { R.dims regs.new ≡ R.dims regs.old }
-    ensures told { IsToldBefore (R.cells regs.old) (R.cells regs.new) }
-    ensures cells { IfSome (R.cells regs.new) (AreCells live.now.key (job_at live.now) (matched (job_at live.now) (take to packets.now))) }
+    ensures told { IsToldBefore (R.contents regs.old) (R.contents regs.new) }
+    ensures contents { IfSome (R.contents regs.new) (AreCells live.now.hash_key (job_at live.now) (matched (job_at live.now) (take to packets.now))) }
     ensures calls { Grows (R.calls regs.old)
-        (flat_map (calls_on live.now.key (job_at live.now)) (matched (job_at live.now) (take (to - from) (drop from packets.now)))) (R.calls regs.new) }
+        (flat_map (calls_on live.now.hash_key (job_at live.now)) (matched (job_at live.now) (take (to - from) (drop from packets.now)))) (R.calls regs.new) }
 {
     'packets: for at in from..to {
         live.count(&packets[at], regs);
@@ -157,20 +157,20 @@ fn take_packets<R: RegFile, O: Sink>(
     out: &mut O,
 ) -> Result<usize, Halt>
     requires taken { taken ≤ length packets.now }
-    requires shaped { IsShaped default_plan (R.dims regs.old) }
-    requires cells { IfSome (R.cells regs.old) (AreCells live.now.key (job_at live.now) (matched (job_at live.now) (take taken packets.now))) }
+    requires shaped { IsShaped default_geometry (R.dims regs.old) }
+    requires cells { IfSome (R.contents regs.old) (AreCells live.now.hash_key (job_at live.now) (matched (job_at live.now) (take taken packets.now))) }
     ensures later { O.faults out.old ≤ O.faults out.new }
-    ensures cause { IfErr result (HasCause (O.faults out.old) (O.faults out.new) 0 0 fault) }
+    ensures cause { IfErr result (HaltHasCause (O.faults out.old) (O.faults out.new) 0 0 fault) }
     ensures faults { R.faults regs.new ≡ R.faults regs.old }
     ensures dims { R.dims regs.new ≡ R.dims regs.old }
-    ensures told { IsToldBefore (R.cells regs.old) (R.cells regs.new) }
+    ensures told { IsToldBefore (R.contents regs.old) (R.contents regs.new) }
     ensures met { MeetsAs (is_some fault && nat_lt (length (drop taken packets.now)) asked) result }
     ensures next { IfOk result (λ next. next ≡ taken + length (take asked (drop taken packets.now))) }
     ensures inside { IfOk result (λ next. next ≤ length packets.now) }
-    ensures cells { LaysBy live.now.key (job_at live.now)
-        (matched (job_at live.now) (take (taken + length (take asked (drop taken packets.now))) packets.now)) result (R.cells regs.new) }
+    ensures contents { LaysBy live.now.hash_key (job_at live.now)
+        (matched (job_at live.now) (take (taken + length (take asked (drop taken packets.now))) packets.now)) result (R.contents regs.new) }
     ensures calls { Grows (R.calls regs.old)
-        (flat_map (calls_on live.now.key (job_at live.now)) (matched (job_at live.now) (take asked (drop taken packets.now)))) (R.calls regs.new) }
+        (flat_map (calls_on live.now.hash_key (job_at live.now)) (matched (job_at live.now) (take asked (drop taken packets.now)))) (R.calls regs.new) }
     ensures sent { SendsBy (O.sent out.old)
         (if is_some fault && nat_lt (length (drop taken packets.now)) asked then []
         else packets_line (length (take asked (drop taken packets.now)))) result (O.sent out.new) }
@@ -200,27 +200,27 @@ fn carry_one<R: RegFile, O: Sink>(
 ) -> Result<usize, Halt>
     requires served { is_served command.now ≡ true }
     requires taken { taken ≤ length packets.now }
-    requires shaped { IsShaped default_plan (R.dims regs.old) }
+    requires shaped { IsShaped default_geometry (R.dims regs.old) }
     requires room { live.now.bits ≤ reader.old }
-    requires cells { IfSome (R.cells regs.old) (AreCells live.now.key (job_at live.now) (matched (job_at live.now) (take taken packets.now))) }
+    requires cells { IfSome (R.contents regs.old) (AreCells live.now.hash_key (job_at live.now) (matched (job_at live.now) (take taken packets.now))) }
     ensures room { reader.new ≡ reader.old }
     ensures later { O.faults out.old ≤ O.faults out.new }
     ensures regs_later { R.faults regs.old ≤ R.faults regs.new }
-    ensures cause { IfErr result (HasCause (O.faults out.old) (O.faults out.new) (R.faults regs.old) (R.faults regs.new) fault) }
+    ensures cause { IfErr result (HaltHasCause (O.faults out.old) (O.faults out.new) (R.faults regs.old) (R.faults regs.new) fault) }
     ensures dims { R.dims regs.new ≡ R.dims regs.old }
-    ensures told { IsToldBefore (R.cells regs.old) (R.cells regs.new) }
+    ensures told { IsToldBefore (R.contents regs.old) (R.contents regs.new) }
     ensures met { MeetsAs (meets (state_at (job_at live.now) packets.now taken) fault command.now) result }
     ensures next { IfOk result (λ next. next ≡ taken + length (taken_by (state_at (job_at live.now) packets.now taken) command.now)) }
     ensures inside { IfOk result (λ next. next ≤ length packets.now) }
-    ensures cells { LaysBy live.now.key (job_at live.now)
-        (matched (job_at live.now) (take (taken + length (taken_by (state_at (job_at live.now) packets.now taken) command.now)) packets.now)) result (R.cells regs.new) }
-    ensures calls { Grows (R.calls regs.old) (calls_of live.now.key (job_at live.now) (state_at (job_at live.now) packets.now taken) command.now) (R.calls regs.new) }
-    ensures sent { IfSome (R.cells regs.new) (λ _. SendsBy (O.sent out.old)
-        (written live.now.key (job_at live.now) fault (state_at (job_at live.now) packets.now taken) command.now) result (O.sent out.new)) }
+    ensures contents { LaysBy live.now.hash_key (job_at live.now)
+        (matched (job_at live.now) (take (taken + length (taken_by (state_at (job_at live.now) packets.now taken) command.now)) packets.now)) result (R.contents regs.new) }
+    ensures calls { Grows (R.calls regs.old) (calls_of live.now.hash_key (job_at live.now) (state_at (job_at live.now) packets.now taken) command.now) (R.calls regs.new) }
+    ensures sent { IfSome (R.contents regs.new) (λ _. SendsBy (O.sent out.old)
+        (written live.now.hash_key (job_at live.now) fault (state_at (job_at live.now) packets.now taken) command.now) result (O.sent out.new)) }
 {
     match asked_for(command) {
         Some(asked) => take_packets(live, asked, packets, fault, taken, regs, out),
-        None => match tell(live, command, reader, regs, out) {
+        None => match read_out(live, command, reader, regs, out) {
             Ok(()) => Ok(taken),
             Err(halt) => Err(halt),
         },

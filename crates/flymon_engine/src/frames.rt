@@ -2,7 +2,7 @@
 ghost use Rattle.std.specs.Prelude.{◌≡◌, IfOk};
 ghost use Rattle.capture_read.specs.Reading.{next_in, after_next, records_in};
 ghost use Rattle.flymon_engine.specs.Frames.{passage_of, packet_by};
-ghost use Rattle.flymon_engine.specs.Seen.{passage_seen};
+ghost use Rattle.flymon_engine.specs.Views.{passage_view};
 
 use capture_read::{Capture, CaptureFault};
 use fm_io::Files;
@@ -22,7 +22,7 @@ pub(crate) fn frames_of<F: Files>(
     mut capture: Capture,
     files: &mut F,
 ) -> Result<Frames, AllocError>
-    ensures passage { IfOk result (λ frames. passage_seen frames ≡ passage_of (records_in capture)) }
+    ensures passage { IfOk result (λ frames. passage_view frames ≡ passage_of (records_in capture)) }
     ensures files { files.new ≡ files.old }
 {
     let mut packets = Vec::new(alloc);

@@ -2,7 +2,7 @@
 ghost use Rattle.std.specs.Prelude.{◌≡◌, ◌≤◌, ◌<◌, ◌++◌, length, codes, ◌+◌, IfErr, OnOk, OnErr, None};
 ghost use Rattle.outside.specs.Told.{Grows};
 ghost use Rattle.outside.specs.Sent.{CameInPart};
-ghost use Rattle.flymon_engine.specs.Carrying.{HasCause};
+ghost use Rattle.flymon_engine.specs.Carrying.{HaltHasCause};
 ghost use Rattle.flymon_engine.specs.Lines.{added_line, packets_line, refusal, refused_line};
 ghost use Rattle.flymon_engine.specs.declared.stop.Halt.TheVariants.{Output};
 
@@ -65,7 +65,7 @@ fn refusal(fault: ReadFault) -> &'static str
 /// Sends a line whole.
 pub(crate) fn send<O: Sink>(out: &mut O, line: &Line) -> Result<(), Halt>
     ensures later { O.faults out.old ≤ O.faults out.new }
-    ensures cause { IfErr result (HasCause (O.faults out.old) (O.faults out.new) 0 0 None) }
+    ensures cause { IfErr result (HaltHasCause (O.faults out.old) (O.faults out.new) 0 0 None) }
     ensures stop { IfErr result (λ halt. halt ≡ Output) }
     ensures sent { OnOk result (Grows (O.sent out.old) line.now.bytes (O.sent out.new)) }
     ensures part { OnErr result (CameInPart (O.sent out.old) line.now.bytes (O.sent out.new)) }

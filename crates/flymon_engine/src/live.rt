@@ -5,17 +5,17 @@ ghost use Rattle.outside.specs.Faults.{HasCause};
 ghost use Rattle.outside.specs.Told.{Told, Stays, Grows};
 ghost use Rattle.pkt_headers.specs.declared.packets.Packet.{Packet};
 ghost use Rattle.reg_file.specs.Registers.{MakesCall};
-ghost use Rattle.readout.specs.Standings.{IsShaped};
-ghost use Rattle.sketch_defs.specs.Cells.{cell_max, key_hash, place_at};
+ghost use Rattle.readout.specs.PlacedTasks.{IsShaped};
+ghost use Rattle.sketch_defs.specs.Cells.{cell_max, key_hash, index_at};
 ghost use Rattle.sketch_lower.specs.Operations.{operation_at, start_of};
-ghost use Rattle.match_table.specs.Micros.{operation_by};
+ghost use Rattle.match_table.specs.Operations.{operation_by};
 ghost use Rattle.flymon_engine.specs.Script.{is_closed};
-ghost use Rattle.flymon_engine.specs.Cells.{AreCells, default_plan};
+ghost use Rattle.flymon_engine.specs.Cells.{AreCells, default_geometry};
 ghost use Rattle.flymon_engine.specs.Carrying.{IsToldBefore};
 ghost use Rattle.flymon_engine.specs.Live.{job_at, HoldStart, Touches};
 ghost use Rattle.flymon_engine.specs.Steps.{call_on, calls_on, matched};
 
-use crate::micros::operation;
+use crate::operation_of_entry::operation;
 use crate::task::LiveTask;
 use addr_translate::{Region, Shape, index};
 use group_keys::KeyUse;
@@ -37,19 +37,19 @@ pub(crate) const DEFAULT_SHAPE: Shape = Shape {
 pub(crate) const FIRST_UNIT: KeyUse = KeyUse::Single { unit: 0 };
 
 impl LiveTask {
-    pub(crate) fn new(key: HashKey, task: Task, bits: u32) -> LiveTask
+    pub(crate) fn new(hash_key: HashKey, task: Task, bits: u32) -> LiveTask
         requires least { 5 ≤ bits }
         requires most { bits ≤ 10 }
         requires sized { task.size ≡ 2 ^ bits }
         requires closed { is_closed task.kind ≡ true }
-        ensures key { result.key ≡ key }
+        ensures hash_key { result.hash_key ≡ hash_key }
         ensures task { result.task ≡ task }
         ensures bits { result.bits ≡ bits }
     {
         let region = Region { base: 0, bits };
         let micro = lower(&task, 0, FIRST_UNIT, region, None).micro;
         LiveTask {
-            key,
+            hash_key,
             task,
             bits,
             micro,
@@ -58,11 +58,11 @@ impl LiveTask {
 
     /// Puts the start value into all its registers.
     pub(crate) fn fill<R: RegFile>(&self, regs: &mut R) -> Result<(), DeviceFault>
-        requires { IsShaped default_plan (R.dims regs.old) }
+        requires { IsShaped default_geometry (R.dims regs.old) }
         ensures cause { HasCause (R.faults regs.old) (R.faults regs.new) result }
         ensures dims { R.dims regs.new ≡ R.dims regs.old }
-        ensures told { IsToldBefore (R.cells regs.old) (R.cells regs.new) }
-        ensures cells { OnOk result (IfSome (R.cells regs.new) (HoldStart (job_at self.now) self.now.task.rows)) }
+        ensures told { IsToldBefore (R.contents regs.old) (R.contents regs.new) }
+        ensures contents { OnOk result (IfSome (R.contents regs.new) (HoldStart (job_at self.now) self.now.task.rows)) }
         ensures calls { Stays (R.calls regs.old) (R.calls regs.new) }
     {
         let start = start_value(self.task.kind());
@@ -74,31 +74,31 @@ impl LiveTask {
 
     /// Makes the operations of a packet, one in each row, where the filter matches it.
     pub(crate) fn count<R: RegFile>(&self, packet: &Packet, regs: &mut R)
-        requires { IsShaped default_plan (R.dims regs.old) }
+        requires { IsShaped default_geometry (R.dims regs.old) }
         ensures faults { R.faults regs.new ≡ R.faults regs.old }
         ensures dims { R.dims regs.new ≡ R.dims regs.old }
-        ensures told { IsToldBefore (R.cells regs.old) (R.cells regs.new) }
-        ensures cells { (past : List Packet) → IfSome (R.cells regs.old) (AreCells self.now.key (job_at self.now) past)
-            → IfSome (R.cells regs.new) (AreCells self.now.key (job_at self.now) (past ++ matched (job_at self.now) (packet.now ∷ []))) }
-        ensures calls { Grows (R.calls regs.old) (flat_map (calls_on self.now.key (job_at self.now)) (matched (job_at self.now) (packet.now ∷ [])))
+        ensures told { IsToldBefore (R.contents regs.old) (R.contents regs.new) }
+        ensures contents { (counted_packets : List Packet) → IfSome (R.contents regs.old) (AreCells self.now.hash_key (job_at self.now) counted_packets)
+            → IfSome (R.contents regs.new) (AreCells self.now.hash_key (job_at self.now) (counted_packets ++ matched (job_at self.now) (packet.now ∷ []))) }
+        ensures calls { Grows (R.calls regs.old) (flat_map (calls_on self.now.hash_key (job_at self.now)) (matched (job_at self.now) (packet.now ∷ [])))
             (R.calls regs.new) }
     {
         if self.task.filter().matches(&packet.vec) {
-            let h = hash(&self.key, &packet.vec, self.task.key());
+            let h = hash(&self.hash_key, &packet.vec, self.task.key());
             self.touch_rows(h, packet, regs);
         }
     }
 
     /// Makes the operations of a packet with this hash under the task's key.
     fn touch_rows<R: RegFile>(&self, h: u32, packet: &Packet, regs: &mut R)
-        requires shaped { IsShaped default_plan (R.dims regs.old) }
-        requires hash { h ≡ key_hash self.now.key self.now.task packet.now.vec }
+        requires shaped { IsShaped default_geometry (R.dims regs.old) }
+        requires hash { h ≡ key_hash self.now.hash_key self.now.task packet.now.vec }
         ensures faults { R.faults regs.new ≡ R.faults regs.old }
         ensures dims { R.dims regs.new ≡ R.dims regs.old }
-        ensures told { IsToldBefore (R.cells regs.old) (R.cells regs.new) }
-        ensures cells { (past : List Packet) → IfSome (R.cells regs.old) (AreCells self.now.key (job_at self.now) past)
-            → IfSome (R.cells regs.new) (AreCells self.now.key (job_at self.now) (past ++ packet.now ∷ [])) }
-        ensures calls { Grows (R.calls regs.old) (calls_on self.now.key (job_at self.now) packet.now) (R.calls regs.new) }
+        ensures told { IsToldBefore (R.contents regs.old) (R.contents regs.new) }
+        ensures contents { (counted_packets : List Packet) → IfSome (R.contents regs.old) (AreCells self.now.hash_key (job_at self.now) counted_packets)
+            → IfSome (R.contents regs.new) (AreCells self.now.hash_key (job_at self.now) (counted_packets ++ packet.now ∷ [])) }
+        ensures calls { Grows (R.calls regs.old) (calls_on self.now.hash_key (job_at self.now) packet.now) (R.calls regs.new) }
     {
         'rows: for row in 0..self.task.rows() {
             self.touch(row, h, packet, regs);
@@ -107,13 +107,13 @@ impl LiveTask {
 
     /// Makes the operation of a packet in one row.
     fn touch<R: RegFile>(&self, row: u32, h: u32, packet: &Packet, regs: &mut R)
-        requires shaped { IsShaped default_plan (R.dims regs.old) }
+        requires shaped { IsShaped default_geometry (R.dims regs.old) }
         requires row { row < self.now.task.rows }
-        requires hash { h ≡ key_hash self.now.key self.now.task packet.now.vec }
+        requires hash { h ≡ key_hash self.now.hash_key self.now.task packet.now.vec }
         ensures faults { R.faults regs.new ≡ R.faults regs.old }
         ensures dims { R.dims regs.new ≡ R.dims regs.old }
-        ensures cells { Told (Touches self.now.key (job_at self.now) row packet.now) (R.cells regs.old) (R.cells regs.new) }
-        ensures calls { Grows (R.calls regs.old) (call_on self.now.key (job_at self.now) packet.now row ∷ []) (R.calls regs.new) }
+        ensures contents { Told (Touches self.now.hash_key (job_at self.now) row packet.now) (R.contents regs.old) (R.contents regs.new) }
+        ensures calls { Grows (R.calls regs.old) (call_on self.now.hash_key (job_at self.now) packet.now row ∷ []) (R.calls regs.new) }
     {
         let of_row = row_hash(h, row);
         let made = operation(self.micro, of_row, self.bits, packet);

@@ -2,13 +2,13 @@
 ghost use Rattle.std.specs.Prelude.{◌≡◌, ◌+◌, ◌<◌, ◌≤◌, ◌==◌, cond, take, IfOk, IfErr, IfSome};
 ghost use Rattle.std.specs.Option.{option_and_then};
 ghost use Rattle.fm_io.specs.Slots.{slot_at, OthersStay};
-ghost use Rattle.fm_io.specs.Names.{ShelfStays, told_text};
+ghost use Rattle.fm_io.specs.Names.{DirectoryStays, told_text};
 ghost use Rattle.flymon_engine.specs.Words.{form_of, texts_of};
 ghost use Rattle.flymon_engine.specs.Script.{verdict_in};
 ghost use Rattle.flymon_engine.specs.Frames.{passage_in};
 ghost use Rattle.flymon_engine.specs.Opening.{HasInputCause, IsReadStop, IsJudgeStop, IsCaptureStop, IsFileStop, StopsWithin, KeepsStrays, stop_in};
-ghost use Rattle.flymon_engine.specs.Plan.{plan_told, plan_with, word_for, JudgesAs, ReadsAs, OpensAs, StopsFormed, StopsInPlace};
-ghost use Rattle.flymon_engine.specs.Seen.{script_seen, passage_seen, plan_seen};
+ghost use Rattle.flymon_engine.specs.Expected.{expected_for, expected_after, word_for, JudgesAs, ReadsAs, OpensAs, StopsFormed, StopsInPlace};
+ghost use Rattle.flymon_engine.specs.Views.{script_view, passage_view, expected_view};
 
 use crate::frames::{Frames, frames_of};
 use crate::session::Session;
@@ -30,10 +30,10 @@ pub(crate) struct Opened {
 pub(crate) fn open<F: Files>(alloc: Global, words: &[String], files: &mut F) -> Result<Opened, Stop>
     ensures later { F.faults files.old ≤ F.faults files.new }
     ensures cause { IfErr result (HasInputCause (F.faults files.old) (F.faults files.new) (F.last files.new)) }
-    ensures plan { OpensAs plan_seen (plan_told (form_of (texts_of words.now)) (F.shelf files.new) (F.slots files.new)) result }
-    ensures place { IfErr result (StopsInPlace (form_of (texts_of words.now)) (F.shelf files.new) (F.slots files.new) (F.last files.new)) }
+    ensures expected { OpensAs expected_view (expected_for (form_of (texts_of words.now)) (F.directory files.new) (F.slots files.new)) result }
+    ensures place { IfErr result (StopsInPlace (form_of (texts_of words.now)) (F.directory files.new) (F.slots files.new) (F.last files.new)) }
     ensures strays { KeepsStrays (word_for (form_of (texts_of words.now)) (F.last files.new))
-        (F.shelf files.new).names (F.strays files.old) (F.strays files.new) (stop_in result) }
+        (F.directory files.new).names (F.strays files.old) (F.strays files.new) (stop_in result) }
 {
     let Some(names) = names_of(words) else {
         return Err(Stop::Usage);
@@ -49,13 +49,13 @@ fn open_files<F: Files>(alloc: Global, names: Names<'_>, files: &mut F) -> Resul
     ensures later { F.faults files.old ≤ F.faults files.new }
     ensures cause { IfErr result (HasInputCause (F.faults files.old) (F.faults files.new) (F.last files.new)) }
     ensures stop { IfErr result IsFileStop }
-    ensures plan { OpensAs plan_seen
-        (option_and_then (λ text. plan_with (told_text (F.shelf files.new) (F.slots files.new).capture names.entry.capture.now) (verdict_in text))
-        (told_text (F.shelf files.new) (F.slots files.new).script names.entry.script.now)) result }
+    ensures expected { OpensAs expected_view
+        (option_and_then (λ text. expected_after (told_text (F.directory files.new) (F.slots files.new).capture names.entry.capture.now) (verdict_in text))
+        (told_text (F.directory files.new) (F.slots files.new).script names.entry.script.now)) result }
     ensures within { F.last files.new ≡ 1 → IfErr result (StopsWithin SCRIPT_LIMIT (F.slots files.new).script) }
-    ensures formed { F.last files.new ≡ 2 → IfErr result (StopsFormed (told_text (F.shelf files.new) (F.slots files.new).script names.entry.script.now)) }
+    ensures formed { F.last files.new ≡ 2 → IfErr result (StopsFormed (told_text (F.directory files.new) (F.slots files.new).script names.entry.script.now)) }
     ensures strays { KeepsStrays (cond (F.last files.new == 1) names.entry.script.now names.entry.capture.now)
-        (F.shelf files.new).names (F.strays files.old) (F.strays files.new) (stop_in result) }
+        (F.directory files.new).names (F.strays files.old) (F.strays files.new) (stop_in result) }
 {
     let session = match session_from(alloc, files, names.script) {
         Ok(session) => session,
@@ -73,9 +73,9 @@ fn session_from<F: Files>(alloc: Global, files: &mut F, name: &str) -> Result<Se
     ensures cause { IfErr result (HasInputCause (F.faults files.old) (F.faults files.new) (F.last files.new)) }
     ensures stop { IfErr result (IsJudgeStop 1) }
     ensures within { IfErr result (StopsWithin SCRIPT_LIMIT (F.slots files.new).script) }
-    ensures shelf { ShelfStays (F.shelf files.old) (F.shelf files.new) }
-    ensures strays { KeepsStrays name.now (F.shelf files.new).names (F.strays files.old) (F.strays files.new) (stop_in result) }
-    ensures text { IfSome (told_text (F.shelf files.new) (F.slots files.new).script name.now) (λ bytes. JudgesAs script_seen (verdict_in bytes) result) }
+    ensures directory { DirectoryStays (F.directory files.old) (F.directory files.new) }
+    ensures strays { KeepsStrays name.now (F.directory files.new).names (F.strays files.old) (F.strays files.new) (stop_in result) }
+    ensures text { IfSome (told_text (F.directory files.new) (F.slots files.new).script name.now) (λ bytes. JudgesAs script_view (verdict_in bytes) result) }
 {
     let script = bytes_of(alloc, files, 1, name, SCRIPT_LIMIT)?;
     match parse_script(alloc, &script) {
@@ -93,10 +93,10 @@ fn frames_from<F: Files>(alloc: Global, files: &mut F, name: &str) -> Result<Fra
     ensures later { F.faults files.old ≤ F.faults files.new }
     ensures cause { IfErr result (HasInputCause (F.faults files.old) (F.faults files.new) (F.last files.new)) }
     ensures stop { IfErr result IsCaptureStop }
-    ensures shelf { ShelfStays (F.shelf files.old) (F.shelf files.new) }
+    ensures directory { DirectoryStays (F.directory files.old) (F.directory files.new) }
     ensures others { OthersStay 2 (F.slots files.old) (F.slots files.new) }
-    ensures strays { KeepsStrays name.now (F.shelf files.new).names (F.strays files.old) (F.strays files.new) (stop_in result) }
-    ensures text { IfSome (told_text (F.shelf files.new) (F.slots files.new).capture name.now) (λ bytes. ReadsAs passage_seen (passage_in bytes) result) }
+    ensures strays { KeepsStrays name.now (F.directory files.new).names (F.strays files.old) (F.strays files.new) (stop_in result) }
+    ensures text { IfSome (told_text (F.directory files.new) (F.slots files.new).capture name.now) (λ bytes. ReadsAs passage_view (passage_in bytes) result) }
 {
     if let Err(Failed) = files.attach(2, name) {
         return Err(Stop::Input { slot: 2 });
@@ -125,11 +125,11 @@ fn bytes_of<F: Files>(
     ensures cause { IfErr result (HasInputCause (F.faults files.old) (F.faults files.new) (F.last files.new)) }
     ensures stop { IfErr result (IsReadStop slot) }
     ensures within { IfErr result (StopsWithin limit (slot_at (F.slots files.new) slot)) }
-    ensures shelf { ShelfStays (F.shelf files.old) (F.shelf files.new) }
+    ensures directory { DirectoryStays (F.directory files.old) (F.directory files.new) }
     ensures others { OthersStay slot (F.slots files.old) (F.slots files.new) }
-    ensures strays { KeepsStrays name.now (F.shelf files.new).names (F.strays files.old) (F.strays files.new) (stop_in result) }
+    ensures strays { KeepsStrays name.now (F.directory files.new).names (F.strays files.old) (F.strays files.new) (stop_in result) }
     ensures text { IfOk result (λ v.
-        IfSome (told_text (F.shelf files.new) (slot_at (F.slots files.new) slot) name.now) (λ bytes. v.items ≡ take (limit + 1) bytes)) }
+        IfSome (told_text (F.directory files.new) (slot_at (F.slots files.new) slot) name.now) (λ bytes. v.items ≡ take (limit + 1) bytes)) }
 {
     if let Err(Failed) = files.attach(slot, name) {
         return Err(Stop::Input { slot });

@@ -22,11 +22,11 @@ pub(crate) struct Session {
 }
 
 impl Session {
-    ghost use Rattle.flymon_engine.specs.Seen.{script_seen};
+    ghost use Rattle.flymon_engine.specs.Views.{script_view};
 
     /// The session of a script's commands; None where they ask for what is not built.
     pub(crate) fn of(commands: Vec<Command>) -> Option<Session>
-        ensures { option_map script_seen result ≡ built_in commands.items }
+        ensures { option_map script_view result ≡ built_in commands.items }
     {
         let (first, behind) = commands.split_first()?;
         let task = added_in(first)?;

@@ -10,7 +10,7 @@ use sketch_defs::Task;
 /// A task whose row i stands at the head of array i, in `2^bits` registers.
 #[derive(Clone, Copy)]
 pub(crate) struct LiveTask {
-    pub key: HashKey,
+    pub hash_key: HashKey,
     pub task: Task,
     pub bits: u32,
     pub micro: Micro,

@@ -5,8 +5,8 @@ ghost use Rattle.hash_units.specs.Keys.{standard_key};
 ghost use Rattle.flymon_engine.specs.Words.{form_of, texts_of};
 ghost use Rattle.flymon_engine.specs.Opening.{HasInputCause};
 ghost use Rattle.flymon_engine.specs.Endings.{IsCarryStop};
-ghost use Rattle.flymon_engine.specs.Seen.{plan_seen};
-ghost use Rattle.flymon_engine.specs.Plan.{plan_told};
+ghost use Rattle.flymon_engine.specs.Views.{expected_view};
+ghost use Rattle.flymon_engine.specs.Expected.{expected_for};
 ghost use Rattle.flymon_engine.specs.Clauses.{status_in, StopsAs, IsVerdict, SendsText, MakesCalls, LaysOut, IsInPlace, KeepsNames, SendsReport};
 
 use crate::carry::carry_all;
@@ -35,26 +35,26 @@ pub fn run<F: Files, R: RegFile, O: Sink, E: Sink>(
     out: &mut O,
     err: &mut E,
 ) -> Status
-    ensures verdict { IsVerdict (plan_told (form_of (texts_of words.now)) (F.shelf files.new) (F.slots files.new)) result }
-    ensures place { IsInPlace (form_of (texts_of words.now)) (F.shelf files.new) (F.slots files.new) (F.last files.new) result }
+    ensures verdict { IsVerdict (expected_for (form_of (texts_of words.now)) (F.directory files.new) (F.slots files.new)) result }
+    ensures place { IsInPlace (form_of (texts_of words.now)) (F.directory files.new) (F.slots files.new) (F.last files.new) result }
 
     // what was written
-    ensures text { SendsText standard_key (plan_told (form_of (texts_of words.now)) (F.shelf files.new) (F.slots files.new))
-        (R.cells regs.new) (O.sent out.old) result (O.sent out.new) }
-    ensures message { SendsReport (plan_told (form_of (texts_of words.now)) (F.shelf files.new) (F.slots files.new))
+    ensures text { SendsText standard_key (expected_for (form_of (texts_of words.now)) (F.directory files.new) (F.slots files.new))
+        (R.contents regs.new) (O.sent out.old) result (O.sent out.new) }
+    ensures message { SendsReport (expected_for (form_of (texts_of words.now)) (F.directory files.new) (F.slots files.new))
         (F.last files.new) result (E.faults err.old) (E.faults err.new) (E.sent err.old) (E.sent err.new) }
 
     // what the registers were asked and hold
-    ensures calls { MakesCalls standard_key (plan_told (form_of (texts_of words.now)) (F.shelf files.new) (F.slots files.new))
+    ensures calls { MakesCalls standard_key (expected_for (form_of (texts_of words.now)) (F.directory files.new) (F.slots files.new))
         (R.calls regs.old) result (R.calls regs.new) }
-    ensures registers { LaysOut standard_key (plan_told (form_of (texts_of words.now)) (F.shelf files.new) (F.slots files.new))
-        result (R.cells regs.new) }
+    ensures registers { LaysOut standard_key (expected_for (form_of (texts_of words.now)) (F.directory files.new) (F.slots files.new))
+        result (R.contents regs.new) }
 
     // each fault has its cause
     ensures input { result ≡ Status.InputFault → Rose (F.faults files.old) (F.faults files.new) }
     ensures output { result ≡ Status.OutputFault → Rose (O.faults out.old) (O.faults out.new) }
     ensures device { result ≡ Status.DeviceFault → Rose (R.faults regs.old) (R.faults regs.new) }
-    ensures names { KeepsNames (form_of (texts_of words.now)) (F.shelf files.new).names (F.last files.new) result (F.strays files.old) (F.strays files.new) }
+    ensures names { KeepsNames (form_of (texts_of words.now)) (F.directory files.new).names (F.last files.new) result (F.strays files.old) (F.strays files.new) }
 {
     match execute(alloc, words, files, regs, out) {
         Ok(()) => Status::Done,
@@ -73,19 +73,19 @@ fn execute<F: Files, R: RegFile, O: Sink>(
     regs: &mut R,
     out: &mut O,
 ) -> Result<(), Stop>
-    ensures verdict { IsVerdict (plan_told (form_of (texts_of words.now)) (F.shelf files.new) (F.slots files.new)) (status_in result) }
-    ensures place { IsInPlace (form_of (texts_of words.now)) (F.shelf files.new) (F.slots files.new) (F.last files.new) (status_in result) }
-    ensures text { SendsText standard_key (plan_told (form_of (texts_of words.now)) (F.shelf files.new) (F.slots files.new))
-        (R.cells regs.new) (O.sent out.old) (status_in result) (O.sent out.new) }
-    ensures calls { MakesCalls standard_key (plan_told (form_of (texts_of words.now)) (F.shelf files.new) (F.slots files.new))
+    ensures verdict { IsVerdict (expected_for (form_of (texts_of words.now)) (F.directory files.new) (F.slots files.new)) (status_in result) }
+    ensures place { IsInPlace (form_of (texts_of words.now)) (F.directory files.new) (F.slots files.new) (F.last files.new) (status_in result) }
+    ensures text { SendsText standard_key (expected_for (form_of (texts_of words.now)) (F.directory files.new) (F.slots files.new))
+        (R.contents regs.new) (O.sent out.old) (status_in result) (O.sent out.new) }
+    ensures calls { MakesCalls standard_key (expected_for (form_of (texts_of words.now)) (F.directory files.new) (F.slots files.new))
         (R.calls regs.old) (status_in result) (R.calls regs.new) }
-    ensures registers { LaysOut standard_key (plan_told (form_of (texts_of words.now)) (F.shelf files.new) (F.slots files.new))
-        (status_in result) (R.cells regs.new) }
-    ensures damage { StopsAs (plan_told (form_of (texts_of words.now)) (F.shelf files.new) (F.slots files.new)) result }
+    ensures registers { LaysOut standard_key (expected_for (form_of (texts_of words.now)) (F.directory files.new) (F.slots files.new))
+        (status_in result) (R.contents regs.new) }
+    ensures damage { StopsAs (expected_for (form_of (texts_of words.now)) (F.directory files.new) (F.slots files.new)) result }
     ensures input { IfErr result (HasInputCause (F.faults files.old) (F.faults files.new) (F.last files.new)) }
     ensures output { status_in result ≡ Status.OutputFault → Rose (O.faults out.old) (O.faults out.new) }
     ensures device { status_in result ≡ Status.DeviceFault → Rose (R.faults regs.old) (R.faults regs.new) }
-    ensures names { KeepsNames (form_of (texts_of words.now)) (F.shelf files.new).names (F.last files.new) (status_in result) (F.strays files.old) (F.strays files.new) }
+    ensures names { KeepsNames (form_of (texts_of words.now)) (F.directory files.new).names (F.last files.new) (status_in result) (F.strays files.old) (F.strays files.new) }
 {
     match open(alloc, words, files) {
         Ok(opened) => carry(alloc, &opened, regs, out),
@@ -101,11 +101,11 @@ fn carry<R: RegFile, O: Sink>(
     out: &mut O,
 ) -> Result<(), Stop>
     ensures stop { IfErr result IsCarryStop }
-    ensures verdict { IsVerdict (Some (plan_seen opened.now)) (status_in result) }
-    ensures damage { StopsAs (Some (plan_seen opened.now)) result }
-    ensures text { SendsText standard_key (Some (plan_seen opened.now)) (R.cells regs.new) (O.sent out.old) (status_in result) (O.sent out.new) }
-    ensures calls { MakesCalls standard_key (Some (plan_seen opened.now)) (R.calls regs.old) (status_in result) (R.calls regs.new) }
-    ensures registers { LaysOut standard_key (Some (plan_seen opened.now)) (status_in result) (R.cells regs.new) }
+    ensures verdict { IsVerdict (Some (expected_view opened.now)) (status_in result) }
+    ensures damage { StopsAs (Some (expected_view opened.now)) result }
+    ensures text { SendsText standard_key (Some (expected_view opened.now)) (R.contents regs.new) (O.sent out.old) (status_in result) (O.sent out.new) }
+    ensures calls { MakesCalls standard_key (Some (expected_view opened.now)) (R.calls regs.old) (status_in result) (R.calls regs.new) }
+    ensures registers { LaysOut standard_key (Some (expected_view opened.now)) (status_in result) (R.contents regs.new) }
     ensures output { status_in result ≡ Status.OutputFault → Rose (O.faults out.old) (O.faults out.new) }
     ensures device { status_in result ≡ Status.DeviceFault → Rose (R.faults regs.old) (R.faults regs.new) }
 {

@@ -2,9 +2,9 @@
 ghost use Rattle.std.specs.Prelude.{◌≡◌, ℕ, ◌+◌, ◌^◌, ◌<◌, ◌∷◌, [], List, Option, length, position, IfOk, IfSome};
 ghost use Rattle.outside.specs.Faults.{HasCause};
 ghost use Rattle.outside.specs.Told.{Stays};
-ghost use Rattle.addr_translate.specs.Plans.{array_count, group_in};
-ghost use Rattle.readout.specs.Standings.{standing_at, place_at, is_named, block_of, HasSide, IsFit, IsShaped, register_at};
-ghost use Rattle.flymon_engine.specs.Cells.{default_plan, standing_of};
+ghost use Rattle.addr_translate.specs.Geometry.{array_count, group_in};
+ghost use Rattle.readout.specs.PlacedTasks.{placed_task_at, index_at, is_named, block_of, HasSide, IsFit, IsShaped, register_at};
+ghost use Rattle.flymon_engine.specs.Cells.{default_geometry, placed_task_of};
 ghost use Rattle.flymon_engine.specs.Live.{job_at, mask_at, free_at, largest_at, rows_on};
 
 use crate::live::{DEFAULT_SHAPE, FIRST_UNIT};
@@ -19,9 +19,9 @@ use sketch_defs::{Name, Task};
 const ARRAY_SIZE: u32 = 1024;
 
 impl TaskView for LiveTask {
-    ghost plan = { λ live. default_plan };
+    ghost geometry = { λ live. default_geometry };
 
-    ghost standings = { λ live. standing_of (job_at live) ∷ [] };
+    ghost tasks = { λ live. placed_task_of (job_at live) ∷ [] };
 
     ghost masks = { λ live. mask_at (job_at live) };
 
@@ -32,7 +32,7 @@ impl TaskView for LiveTask {
     ghost live_counts = { λ live. rows_on (job_at live) };
 
     fn shape(&self) -> Shape
-        ensures { result ≡ default_plan }
+        ensures { result ≡ default_geometry }
     {
         DEFAULT_SHAPE
     }
@@ -42,7 +42,7 @@ impl TaskView for LiveTask {
     }
 
     fn find(&self, name: &Name) -> Option<usize>
-        ensures { result ≡ position (is_named name.now) (standing_of (job_at self.now) ∷ []) }
+        ensures { result ≡ position (is_named name.now) (placed_task_of (job_at self.now) ∷ []) }
     {
         if self.task.name().bytes() == name.bytes() {
             Some(0)

@@ -1,7 +1,7 @@
 //! The words of the command line.
 ghost use Rattle.std.specs.Prelude.{◌≡◌};
 ghost use Rattle.flymon_engine.specs.Words.{form_of, texts_of};
-ghost use Rattle.flymon_engine.specs.Seen.{form_seen};
+ghost use Rattle.flymon_engine.specs.Views.{form_view};
 
 /// The three names of `replay PROFILE SCRIPT CAPTURE`.
 #[derive(Clone, Copy)]
@@ -13,7 +13,7 @@ pub(crate) struct Names<'a> {
 
 /// The names of a replay; None where the words are no such form.
 pub(crate) fn names_of(words: &[String]) -> Option<Names<'_>>
-    ensures { form_of (texts_of words.now) ≡ form_seen result }
+    ensures { form_of (texts_of words.now) ≡ form_view result }
 {
     let [word, profile, script, capture] = words else {
         return None;

@@ -2,9 +2,9 @@
 use Rattle.std.specs.Prelude.{ℕ}
 use Rattle.fm_io.specs.declared.mem_files.MemFiles.{MemFiles}
 use Rattle.fm_io.specs.Calls.{Course}
-use Rattle.fm_io.specs.Names.{Shelf}
+use Rattle.fm_io.specs.Names.{Directory}
 use Rattle.fm_io.specs.Slots.{Slots}
-use Rattle.fm_io.specs.Texts.{shelf_in, slots_in}
+use Rattle.fm_io.specs.Texts.{directory_in, slots_in}
 
 abbrev pub faults_of : MemFiles → ℕ
 faults_of files = files.calls.faults
@@ -15,8 +15,8 @@ last_of files = files.last
 abbrev pub strays_of : MemFiles → ℕ
 strays_of files = files.strays
 
-abbrev pub shelf_of : MemFiles → Shelf
-shelf_of files = shelf_in files.files.items
+abbrev pub directory_of : MemFiles → Directory
+directory_of files = directory_in files.files.items
 
 abbrev pub slots_of : MemFiles → Slots
 slots_of files = slots_in files.files.items files.places

@@ -4,7 +4,7 @@ ghost use Rattle.outside.specs.Faults.{Rose, HasCause};
 ghost use Rattle.outside.specs.Told.{Grows};
 ghost use Rattle.outside.specs.Sent.{CameInPart};
 ghost use Rattle.fm_io.specs.Slots.{slot_at, SlotMoves, SlotStays, OthersStay, Yields, MovesUpTo, IsAtEnd, last_failed};
-ghost use Rattle.fm_io.specs.Names.{ShelfStays};
+ghost use Rattle.fm_io.specs.Names.{DirectoryStays};
 ghost use Rattle.fm_io.specs.Loops.{last_read};
 
 use crate::traits::{Failed, Files, Sink};
@@ -38,13 +38,13 @@ pub fn read_full<F: Files>(files: &mut F, slot: usize, buf: &mut [u8]) -> Result
     ensures cause { HasCause (F.faults files.old) (F.faults files.new) result }
     ensures last { F.last files.new ≡ last_failed slot (F.last files.old) result }
     ensures strays { F.strays files.new ≡ F.strays files.old }
-    ensures shelf { ShelfStays (F.shelf files.old) (F.shelf files.new) }
+    ensures directory { DirectoryStays (F.directory files.old) (F.directory files.new) }
     ensures slot { MatchResult result
         (λ n. SlotMoves (Yields (take n buf.new)) (slot_at (F.slots files.old) slot) (slot_at (F.slots files.new) slot))
         (λ _. SlotMoves (MovesUpTo (length buf.old - 1)) (slot_at (F.slots files.old) slot) (slot_at (F.slots files.new) slot)) }
     ensures others { OthersStay slot (F.slots files.old) (F.slots files.new) }
     ensures count { IfOk result (λ n. n ≤ length buf.old) }
-    ensures end { IfOk result (λ n. n < length buf.old → IfSome (slot_at (F.slots files.new) slot).tape IsAtEnd) }
+    ensures end { IfOk result (λ n. n < length buf.old → IfSome (slot_at (F.slots files.new) slot).cursor IsAtEnd) }
     ensures rest { IfOk result (λ n. drop n buf.new ≡ drop n buf.old) }
 {
     let mut done = 0;
@@ -75,7 +75,7 @@ fn read_more<F: Files>(
     ensures failed { IsErrOf result ReadFail.Failed → Rose (F.faults files.old) (F.faults files.new) }
     ensures last { F.last files.new ≡ last_read slot (F.last files.old) result }
     ensures strays { F.strays files.new ≡ F.strays files.old }
-    ensures shelf { ShelfStays (F.shelf files.old) (F.shelf files.new) }
+    ensures directory { DirectoryStays (F.directory files.old) (F.directory files.new) }
     ensures slot { MatchResult result
         (λ _. SlotMoves (Yields (drop (vec_len bytes.old) bytes.new.items))
         (slot_at (F.slots files.old) slot) (slot_at (F.slots files.new) slot))
@@ -87,7 +87,7 @@ fn read_more<F: Files>(
     ensures front { OnOk result (take (vec_len bytes.old) bytes.new.items ≡ bytes.old.items) }
     ensures count { IfOk result (λ n. vec_len bytes.new ≡ vec_len bytes.old + n) }
     ensures within { OnOk result (vec_len bytes.new ≤ limit + 1) }
-    ensures end { IfOk result (λ n. n ≡ 0 → IfSome (slot_at (F.slots files.new) slot).tape IsAtEnd) }
+    ensures end { IfOk result (λ n. n ≡ 0 → IfSome (slot_at (F.slots files.new) slot).cursor IsAtEnd) }
 {
     let mut chunk = [0u8; CHUNK];
     let room = (limit - bytes.len()).saturating_add(1).min(CHUNK);
@@ -114,7 +114,7 @@ pub fn read_whole<F: Files>(
     ensures failed { IsErrOf result ReadFail.Failed → Rose (F.faults files.old) (F.faults files.new) }
     ensures last { F.last files.new ≡ last_read slot (F.last files.old) result }
     ensures strays { F.strays files.new ≡ F.strays files.old }
-    ensures shelf { ShelfStays (F.shelf files.old) (F.shelf files.new) }
+    ensures directory { DirectoryStays (F.directory files.old) (F.directory files.new) }
     ensures slot { MatchResult result
         (λ v. SlotMoves (Yields v.items) (slot_at (F.slots files.old) slot) (slot_at (F.slots files.new) slot))
         (λ _. SlotMoves (MovesUpTo (limit + 1)) (slot_at (F.slots files.old) slot) (slot_at (F.slots files.new) slot)) }
@@ -122,7 +122,7 @@ pub fn read_whole<F: Files>(
         SlotMoves (MovesUpTo limit) (slot_at (F.slots files.old) slot) (slot_at (F.slots files.new) slot) }
     ensures others { OthersStay slot (F.slots files.old) (F.slots files.new) }
     ensures count { IfOk result (λ v. vec_len v ≤ limit + 1) }
-    ensures end { IfOk result (λ v. vec_len v ≤ limit → IfSome (slot_at (F.slots files.new) slot).tape IsAtEnd) }
+    ensures end { IfOk result (λ v. vec_len v ≤ limit → IfSome (slot_at (F.slots files.new) slot).cursor IsAtEnd) }
 {
     let mut bytes = Vec::new(alloc);
     'pieces: while bytes.len() <= limit {

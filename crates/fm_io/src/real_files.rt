@@ -1,6 +1,6 @@
 //! Files of the file system: the trusted edge, which tells no bytes.
 ghost use Rattle.std.specs.Prelude.{◌≡◌, ◌≤◌, length, drop, is_some, IfSome, IsSome};
-ghost use Rattle.fm_io.specs.Names.{untold_shelf};
+ghost use Rattle.fm_io.specs.Names.{untold_directory};
 ghost use Rattle.fm_io.specs.Slots.{untold};
 
 use crate::traits::{Failed, Files};
@@ -65,7 +65,7 @@ impl<R: rt::Files + Drop> Files for RealFiles<R> {
 
     ghost strays = { λ _. 0 };
 
-    ghost shelf = { λ _. untold_shelf };
+    ghost directory = { λ _. untold_directory };
 
     ghost slots = { λ f. record { profile = untold (is_some f.profile); script = untold (is_some f.script); capture = untold (is_some f.capture) } };
 

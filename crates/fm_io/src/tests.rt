@@ -15,7 +15,7 @@ fn file(alloc: Global, name: &str, bytes: &[u8]) -> Result<MemFile, OutOfMemory>
 }
 
 /// Two files of one name, and another.
-fn shelf(alloc: Global) -> Result<Vec<MemFile>, OutOfMemory> {
+fn directory(alloc: Global) -> Result<Vec<MemFile>, OutOfMemory> {
     let mut files = Vec::new(alloc);
     files.push(file(alloc, "script", TEXT)?)?;
     files.push(file(alloc, "script", b"second")?)?;
@@ -27,7 +27,7 @@ fn shelf(alloc: Global) -> Result<Vec<MemFile>, OutOfMemory> {
 fn reads_slots_whole(rt: HostRuntime) -> Result<(), Fail> {
     let alloc = rt.alloc();
     for piece in [1usize, 7] {
-        let mut files = MemFiles::new(shelf(alloc)?, piece, Vec::new(alloc));
+        let mut files = MemFiles::new(directory(alloc)?, piece, Vec::new(alloc));
         files.attach(1, "script")?;
         files.attach(2, "capture")?;
         assert_eq!(rt;
@@ -50,7 +50,7 @@ fn reads_slots_whole(rt: HostRuntime) -> Result<(), Fail> {
 fn fills_buffers(rt: HostRuntime) -> Result<(), Fail> {
     let alloc = rt.alloc();
     for piece in [1usize, 7] {
-        let mut files = MemFiles::new(shelf(alloc)?, piece, Vec::new(alloc));
+        let mut files = MemFiles::new(directory(alloc)?, piece, Vec::new(alloc));
         files.attach(1, "script")?;
         let mut buf = [0u8; 8];
         assert_eq!(rt; read_full(&mut files, 1, &mut buf)?, 8);
@@ -65,7 +65,7 @@ fn fills_buffers(rt: HostRuntime) -> Result<(), Fail> {
 #[test]
 fn fails_at_the_listed_calls(rt: HostRuntime) -> Result<(), Fail> {
     let alloc = rt.alloc();
-    let mut files = MemFiles::new(shelf(alloc)?, 7, vec![in alloc; 1, 4]?);
+    let mut files = MemFiles::new(directory(alloc)?, 7, vec![in alloc; 1, 4]?);
     assert_eq!(rt; files.attach(1, "script"), Err(Failed));
     assert_eq!(rt; files.attach(1, "profile"), Err(Failed));
     files.attach(1, "script")?;

@@ -3,7 +3,7 @@ ghost use Rattle.std.specs.Prelude.{◌≡◌, ℕ, ◌<◌, ◌≤◌, true, le
 ghost use Rattle.outside.specs.Faults.{HasCause};
 ghost use Rattle.outside.specs.Told.{Stays, Grows};
 ghost use Rattle.fm_io.specs.Slots.{Slots, slot_at, SlotMoves, SlotStays, OthersStay, Attaches, Yields, IsAtEnd, last_failed};
-ghost use Rattle.fm_io.specs.Names.{Shelf, ShelfStays, CountsStray};
+ghost use Rattle.fm_io.specs.Names.{Directory, DirectoryStays, CountsStray};
 
 /// A call on a file or a sink did not do its work.
 #[derive(Clone, Copy, Debug, PartialEq, Eq)]
@@ -17,7 +17,7 @@ pub trait Files {
 
     ghost strays: { Self → ℕ };
 
-    ghost shelf: { Self → Shelf };
+    ghost directory: { Self → Directory };
 
     ghost slots: { Self → Slots };
 
@@ -26,9 +26,9 @@ pub trait Files {
         requires { slot < 3 }
         ensures cause { HasCause (faults self.old) (faults self.new) result }
         ensures last { last self.new ≡ last_failed slot (last self.old) result }
-        ensures strays { CountsStray (shelf self.new).names name.now result (strays self.old) (strays self.new) }
-        ensures shelf { ShelfStays (shelf self.old) (shelf self.new) }
-        ensures slot { Attaches ((shelf self.new).text name.now) result (slot_at (slots self.new) slot) }
+        ensures strays { CountsStray (directory self.new).names name.now result (strays self.old) (strays self.new) }
+        ensures directory { DirectoryStays (directory self.old) (directory self.new) }
+        ensures slot { Attaches ((directory self.new).text name.now) result (slot_at (slots self.new) slot) }
         ensures others { OthersStay slot (slots self.old) (slots self.new) };
 
     /// Reads the next bytes of the slot's file into the front of `buf`, and answers how many: 0 at the end alone.
@@ -39,13 +39,13 @@ pub trait Files {
         ensures cause { HasCause (faults self.old) (faults self.new) result }
         ensures last { last self.new ≡ last_failed slot (last self.old) result }
         ensures strays { strays self.new ≡ strays self.old }
-        ensures shelf { ShelfStays (shelf self.old) (shelf self.new) }
+        ensures directory { DirectoryStays (directory self.old) (directory self.new) }
         ensures slot { MatchResult result
             (λ n. SlotMoves (Yields (take n buf.new)) (slot_at (slots self.old) slot) (slot_at (slots self.new) slot))
             (λ _. SlotStays (slot_at (slots self.old) slot) (slot_at (slots self.new) slot)) }
         ensures others { OthersStay slot (slots self.old) (slots self.new) }
         ensures count { IfOk result (λ n. n ≤ length buf.old) }
-        ensures end { IfOk result (λ n. n ≡ 0 → IfSome (slot_at (slots self.new) slot).tape IsAtEnd) }
+        ensures end { IfOk result (λ n. n ≡ 0 → IfSome (slot_at (slots self.new) slot).cursor IsAtEnd) }
         ensures rest { IfOk result (λ n. drop n buf.new ≡ drop n buf.old) };
 }
 

@@ -6,39 +6,39 @@ use Rattle.std.proofs.lemmas.List.Elements.{All-head, All-tail}
 use Rattle.std.proofs.lemmas.Bool.Decides.{nat_tests}
 use Rattle.group_keys.specs.declared.uses.KeyUse.{KeyUse}
 use Rattle.group_keys.specs.declared.uses.KeyUse.TheVariants.{Single, Pair}
-use Rattle.group_keys.specs.Units.{Busy, HasUses, unit_at, AreUnits, served, freed, served_at, freed_at, served_units, freed_units}
+use Rattle.group_keys.specs.Units.{UsedUnit, HasUses, unit_at, AreUnits, served, freed, served_at, freed_at, served_units, freed_units}
 
 -- a unit as it was
-freed_served : (mask : List ℕ) (unit : Option Busy) → HasUses unit → freed (served mask unit) ≡ unit
+freed_served : (mask : List ℕ) (unit : Option UsedUnit) → HasUses unit → freed (served mask unit) ≡ unit
 freed_served mask None h = refl
-freed_served mask (Some busy) h = by (nat_le (busy.uses + 1) 1) refl where
-  by : (few : Bool) → nat_le (busy.uses + 1) 1 ≡ few
-      → (if few then None else (let left : Option Busy = Some (record { mask = busy.mask; uses = busy.uses + 1 - 1 }) in left)) ≡ Some busy
+freed_served mask (Some used) h = by (nat_le (used.uses + 1) 1) refl where
+  by : (few : Bool) → nat_le (used.uses + 1) 1 ≡ few
+      → (if few then None else (let left : Option UsedUnit = Some (record { mask = used.mask; uses = used.uses + 1 - 1 }) in left)) ≡ Some used
   by true e = grind (arith, nat_tests)
-  by false e = let same : busy.uses + 1 - 1 ≡ busy.uses = omega arith in
-      ap (λ uses. let left : Option Busy = Some (record { mask = busy.mask; uses = uses }) in left) same
+  by false e = let same : used.uses + 1 - 1 ≡ used.uses = omega arith in
+      ap (λ uses. let left : Option UsedUnit = Some (record { mask = used.mask; uses = uses }) in left) same
 
 -- the units as they were
-restored_at : (units : List (Option Busy)) (unit : ℕ) (mask : List ℕ) → unit < length units → HasUses (unit_at units unit)
+restored_at : (units : List (Option UsedUnit)) (unit : ℕ) (mask : List ℕ) → unit < length units → HasUses (unit_at units unit)
     → freed_at (served_at mask units unit) unit ≡ units
 restored_at units unit mask within h =
-    let new : Option Busy = served mask (unit_at units unit) in
+    let new : Option UsedUnit = served mask (unit_at units unit) in
     let back : freed (unit_at (set units unit new) unit) ≡ unit_at units unit =
     ap freed (get_or-set_same units unit new None within) ∙ freed_served mask (unit_at units unit) h in
     set-set units unit new (freed (unit_at (set units unit new) unit))
     ∙ ap (set units unit) back ∙ set-get_or units unit None
 
 -- what one unit becomes does not matter for the other
-freed_served_apart : (units : List (Option Busy)) (one two : ℕ) (mask : List ℕ) → one ≢ two
+freed_served_apart : (units : List (Option UsedUnit)) (one two : ℕ) (mask : List ℕ) → one ≢ two
     → freed_at (served_at mask units two) one ≡ served_at mask (freed_at units one) two
 freed_served_apart units one two mask apart =
-    let new : Option Busy = served mask (unit_at units two) in
-    let left : Option Busy = freed (unit_at units one) in
+    let new : Option UsedUnit = served mask (unit_at units two) in
+    let left : Option UsedUnit = freed (unit_at units one) in
     ap (λ unit. set (set units two new) one (freed unit)) (get_or-set_other units two one new None apart)
     ∙ sym (set_comm units one two left new apart)
     ∙ ap (λ unit. set (set units one left) two (served mask unit)) (sym (get_or-set_other units one two left None (λ same. apart (sym same))))
 
-pub free_restores : (units : List (Option Busy)) (keys : KeyUse) (mask : List ℕ) → AreUnits units keys → All HasUses units
+pub free_restores : (units : List (Option UsedUnit)) (keys : KeyUse) (mask : List ℕ) → AreUnits units keys → All HasUses units
     → freed_units (served_units units keys mask) keys ≡ units
 unfolding served_units freed_units
 free_restores units (Single unit) mask h used =

@@ -1,4 +1,4 @@
 pub mod LawLemmas
-pub mod PlaceLemmas
+pub mod SlotLemmas
 pub mod UseLemmas
 pub mod Values

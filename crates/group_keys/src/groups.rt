@@ -13,27 +13,27 @@ use std::marker::Model;
 /// The most units of a group.
 pub const MOST_UNITS: u32 = 4;
 
-/// How many places for units there are.
-const PLACES: usize = MOST_UNITS as usize;
+/// How many slots for units there are.
+const SLOTS: usize = MOST_UNITS as usize;
 
 /// The units of a group, by their numbers, each free or in use with a mask.
 #[derive(Clone, Copy, Debug, PartialEq, Eq)]
 pub struct GroupKeys {
-    units: [Option<Unit>; PLACES],
+    units: [Option<Unit>; SLOTS],
     count: u32,
 }
 
 impl Model for GroupKeys {
     ghost use Rattle.std.specs.Prelude.{List, Option, take, length};
-    ghost use Rattle.group_keys.specs.Units.{Busy, in_places, AreInPlaces};
+    ghost use Rattle.group_keys.specs.Units.{UsedUnit, in_slots, AreInSlots};
 
-    ghost Value = { List (Option Busy) };
+    ghost Value = { List (Option UsedUnit) };
 
     ghost view = { λ g. take g.count g.units };
 
-    ghost invariant = { λ g. AreInPlaces g.units g.count };
+    ghost invariant = { λ g. AreInSlots g.units g.count };
 
-    ghost inverse = { λ units. record { units = in_places units; count = length units } };
+    ghost inverse = { λ units. record { units = in_slots units; count = length units } };
 
     ghost use Rattle.std.proofs.Common.{sym, ap₂};
 
@@ -48,7 +48,7 @@ impl GroupKeys {
         ensures { result ≡ replicate units None }
     {
         GroupKeys {
-            units: [None; PLACES],
+            units: [None; SLOTS],
             count: units,
         }
     }

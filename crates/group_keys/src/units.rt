@@ -16,13 +16,13 @@ pub(crate) struct Unit {
 }
 
 impl Model for Unit {
-    ghost use Rattle.group_keys.specs.Units.{Busy};
+    ghost use Rattle.group_keys.specs.Units.{UsedUnit};
 
-    ghost Value = { Busy };
+    ghost Value = { UsedUnit };
 
     ghost view = { λ u. record { mask = u.mask; uses = u.uses } };
 
-    ghost inverse = { λ busy. record { mask = busy.mask; uses = busy.uses } };
+    ghost inverse = { λ used. record { mask = used.mask; uses = used.uses } };
 }
 
 impl Unit {

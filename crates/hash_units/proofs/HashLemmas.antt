@@ -13,7 +13,7 @@ use Rattle.key_mask.specs.Bytes.{and_bytes, xor_bytes}
 use Rattle.key_mask.specs.Masks.{mask_bytes_of}
 use Rattle.key_mask.proofs.BytesLemmas.{length-bytewise, get_or-xor_bytes, and_bytes-xor_bytes}
 use Rattle.key_mask.proofs.MaskLemmas.{length-mask_bytes_of}
-use Rattle.hash_units.specs.Toeplitz.{number_of, window, is_one, xor_all, hash_of, byte_word, row_hash_of}
+use Rattle.hash_units.specs.Toeplitz.{be_value, window, is_one, xor_all, hash_of, byte_word, row_hash_of}
 use Rattle.hash_units.specs.Laws.{HashIsLinear, MasksAdd, PairsServe}
 
 -- ---- an XOR over the places below n that pass
@@ -131,65 +131,65 @@ is_one_xor xs ys long i =
 
 pub hash_is_linear : HashIsLinear
 unfolding hash_of
-hash_is_linear key xs ys long =
+hash_is_linear hash_key xs ys long =
     let same : length (xor_bytes xs ys) ≡ length xs = omega (arith, length-bytewise bit_xor xs ys) in
-    ap (λ n. xor_upto (window key) (is_one (xor_bytes xs ys)) (8 * n)) same
-    ∙ xor_filter (window key) (is_one xs) (is_one ys) (is_one (xor_bytes xs ys)) (is_one_xor xs ys long) (range_with_len 0 (8 * length xs))
-    ∙ ap (λ n. bit_xor (xor_upto (window key) (is_one xs) (8 * length xs)) (xor_upto (window key) (is_one ys) (8 * n))) long
+    ap (λ n. xor_upto (window hash_key) (is_one (xor_bytes xs ys)) (8 * n)) same
+    ∙ xor_filter (window hash_key) (is_one xs) (is_one ys) (is_one (xor_bytes xs ys)) (is_one_xor xs ys long) (range_with_len 0 (8 * length xs))
+    ∙ ap (λ n. bit_xor (xor_upto (window hash_key) (is_one xs) (8 * length xs)) (xor_upto (window hash_key) (is_one ys) (8 * n))) long
 
 pub masks_add : MasksAdd
-masks_add key bytes one two long =
+masks_add hash_key bytes one two long =
     let same : length (and_bytes bytes one) ≡ length (and_bytes bytes two) =
     omega (arith, length-bytewise bit_and bytes one, length-bytewise bit_and bytes two) in
-    sym (ap (hash_of key) (and_bytes-xor_bytes bytes one two) ∙ hash_is_linear key (and_bytes bytes one) (and_bytes bytes two) same)
+    sym (ap (hash_of hash_key) (and_bytes-xor_bytes bytes one two) ∙ hash_is_linear hash_key (and_bytes bytes one) (and_bytes bytes two) same)
 
 pub pairs_serve : PairsServe
-pairs_serve key bytes one two mask e =
-    masks_add key bytes (mask_bytes_of one) (mask_bytes_of two) (length-mask_bytes_of one ∙ sym (length-mask_bytes_of two))
-    ∙ ap (λ m. hash_of key (and_bytes bytes m)) e
+pairs_serve hash_key bytes one two mask e =
+    masks_add hash_key bytes (mask_bytes_of one) (mask_bytes_of two) (length-mask_bytes_of one ∙ sym (length-mask_bytes_of two))
+    ∙ ap (λ m. hash_of hash_key (and_bytes bytes m)) e
 
 -- ---- byte by byte
 
 -- the hash of the first n bytes
 abbrev pub hash_upto : List ℕ → List ℕ → ℕ → ℕ
-hash_upto key bytes n = xor_upto (window key) (is_one bytes) (8 * n)
+hash_upto hash_key bytes n = xor_upto (window hash_key) (is_one bytes) (8 * n)
 
-pub hash_byte_more : (key bytes : List ℕ) (at : ℕ)
-    → hash_upto key bytes (at + 1) ≡ bit_xor (hash_upto key bytes at) (byte_word key at (get_or bytes at 0))
+pub hash_byte_more : (hash_key bytes : List ℕ) (at : ℕ)
+    → hash_upto hash_key bytes (at + 1) ≡ bit_xor (hash_upto hash_key bytes at) (byte_word hash_key at (get_or bytes at 0))
 unfolding byte_word
-hash_byte_more key bytes at =
+hash_byte_more hash_key bytes at =
     let eight : 8 * (at + 1) ≡ 8 * at + 8 = omega arith in
     let test : (b : ℕ) → b < 8 → is_one bytes (8 * at + b) ≡ (bit_at (get_or bytes at 0) (7 - b) == 1) = λ b h.
     let byte : (8 * at + b) / 8 ≡ at = omega arith in
     let bit : (8 * at + b) % 8 ≡ b = omega arith in
     ap₂ (λ k m. bit_at (get_or bytes k 0) (7 - m) == 1) byte bit in
-    ap (xor_upto (window key) (is_one bytes)) eight
-    ∙ xor_add (window key) (is_one bytes) (8 * at) 8
-    ∙ ap (bit_xor (hash_upto key bytes at))
-    (xor_agree (λ b. window key (8 * at + b)) (λ b. is_one bytes (8 * at + b)) (λ b. bit_at (get_or bytes at 0) (7 - b) == 1) 8 test)
+    ap (xor_upto (window hash_key) (is_one bytes)) eight
+    ∙ xor_add (window hash_key) (is_one bytes) (8 * at) 8
+    ∙ ap (bit_xor (hash_upto hash_key bytes at))
+    (xor_agree (λ b. window hash_key (8 * at + b)) (λ b. is_one bytes (8 * at + b)) (λ b. bit_at (get_or bytes at 0) (7 - b) == 1) 8 test)
 
 -- a byte that is 0 has no part in the hash
-pub byte_word_zero : (key : List ℕ) (at : ℕ) → byte_word key at 0 ≡ 0
+pub byte_word_zero : (hash_key : List ℕ) (at : ℕ) → byte_word hash_key at 0 ≡ 0
 unfolding byte_word
-byte_word_zero key at = refl
+byte_word_zero hash_key at = refl
 
-pub hash_all : (key bytes : List ℕ) (n : ℕ) → n ≡ length bytes → hash_upto key bytes n ≡ hash_of key bytes
+pub hash_all : (hash_key bytes : List ℕ) (n : ℕ) → n ≡ length bytes → hash_upto hash_key bytes n ≡ hash_of hash_key bytes
 unfolding hash_of
-hash_all key bytes n e = ap (hash_upto key bytes) e
+hash_all hash_key bytes n e = ap (hash_upto hash_key bytes) e
 
 -- ---- ranges
 
-pub window_lt : (key : List ℕ) (i : ℕ) → window key i < 2 ^ 32
+pub window_lt : (hash_key : List ℕ) (i : ℕ) → window hash_key i < 2 ^ 32
 unfolding window
-window_lt key i = mod_below (number_of key / 2 ^ (8 * length key - 32 - i)) (2 ^ 32) (omega arith)
+window_lt hash_key i = mod_below (be_value hash_key / 2 ^ (8 * length hash_key - 32 - i)) (2 ^ 32) (omega arith)
 
 xor_all_lt : (f : ℕ → ℕ) → ((i : ℕ) → f i < 2 ^ 32) → (places : List ℕ) → xor_all (map f places) < 2 ^ 32
 xor_all_lt f each [] = omega arith
 xor_all_lt f each (i ∷ places) = xor_lt 32 (f i) (xor_all (map f places)) (each i) (xor_all_lt f each places)
 
-pub hash_lt : (key bytes : List ℕ) → hash_of key bytes < 2 ^ 32
+pub hash_lt : (hash_key bytes : List ℕ) → hash_of hash_key bytes < 2 ^ 32
 unfolding hash_of
-hash_lt key bytes = xor_all_lt (window key) (window_lt key) (filter (is_one bytes) (range_with_len 0 (8 * length bytes)))
+hash_lt hash_key bytes = xor_all_lt (window hash_key) (window_lt hash_key) (filter (is_one bytes) (range_with_len 0 (8 * length bytes)))
 
 pub row_hash_lt : (h row : ℕ) → h < 2 ^ 32 → row_hash_of h row < 2 ^ 32
 row_hash_lt h row small =

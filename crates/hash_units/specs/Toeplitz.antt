@@ -6,13 +6,13 @@ use Rattle.std.specs.Int.Count.{count_leading_zeros}
 use Rattle.std.specs.List.{filter, range_with_len}
 
 -- the bytes as one number, the most significant first
-abbrev pub number_of : List ℕ → ℕ
-number_of [] = 0
-number_of (b ∷ bytes) = b * 2 ^ (8 * length bytes) + number_of bytes
+abbrev pub be_value : List ℕ → ℕ
+be_value [] = 0
+be_value (b ∷ bytes) = b * 2 ^ (8 * length bytes) + be_value bytes
 
 -- the 32 bits of the key from bit i on
 unfoldable pub window : List ℕ → ℕ → ℕ
-window key i = number_of key / 2 ^ (8 * length key - 32 - i) % 2 ^ 32
+window hash_key i = be_value hash_key / 2 ^ (8 * length hash_key - 32 - i) % 2 ^ 32
 
 -- bit i of the bytes is 1
 abbrev pub is_one : List ℕ → ℕ → Bool
@@ -24,11 +24,11 @@ xor_all (n ∷ ns) = bit_xor n (xor_all ns)
 
 -- the XOR of the windows at all bits of the bytes that are 1
 unfoldable pub hash_of : List ℕ → List ℕ → ℕ
-hash_of key bytes = xor_all (map (window key) (filter (is_one bytes) (range_with_len 0 (8 * length bytes))))
+hash_of hash_key bytes = xor_all (map (window hash_key) (filter (is_one bytes) (range_with_len 0 (8 * length bytes))))
 
 -- the part of it that byte `at` has, where it is x
 unfoldable pub byte_word : List ℕ → ℕ → ℕ → ℕ
-byte_word key at x = xor_all (map (λ b. window key (8 * at + b)) (filter (λ b. bit_at x (7 - b) == 1) (range_with_len 0 8)))
+byte_word hash_key at x = xor_all (map (λ b. window hash_key (8 * at + b)) (filter (λ b. bit_at x (7 - b) == 1) (range_with_len 0 8)))
 
 -- the hash that a row of a task uses
 abbrev pub row_hash_of : ℕ → ℕ → ℕ

@@ -5,10 +5,10 @@ use Rattle.pkt_headers.specs.declared.packets.Packet.{Packet}
 use Rattle.pkt_headers.specs.declared.packets.Attr.TheVariants.{Bytes, Ttl}
 use Rattle.hash_units.specs.Toeplitz.{rho_of}
 use Rattle.stateful_ops.specs.declared.ops.Op.TheVariants as ops
-use Rattle.match_table.specs.declared.micros.Code.TheVariants.{CondAdd, Max, Or}
-use Rattle.match_table.specs.declared.micros.First.TheVariants.{Weight, Bit, Rho}
-use Rattle.match_table.specs.declared.micros.Second.TheVariants.{Top, Carry}
-use Rattle.match_table.specs.Micros.{operation_by}
+use Rattle.match_table.specs.declared.operations.Code.TheVariants.{CondAdd, Max, Or}
+use Rattle.match_table.specs.declared.operations.First.TheVariants.{Weight, Bit, Rho}
+use Rattle.match_table.specs.declared.operations.Second.TheVariants.{Top, Carry}
+use Rattle.match_table.specs.Operations.{operation_by}
 
 abbrev packet : Packet
 packet = record { vec = replicate 16 0; len = 54; ttl = 64; flags = 2 }

@@ -1,1 +1,1 @@
-pub mod Micros
+pub mod Operations

@@ -1,6 +1,6 @@
 //! The entries of an array.
 
-use crate::micros::Micro;
+use crate::operations::Micro;
 use addr_translate::Region;
 use group_keys::KeyUse;
 use task_filters::Filter;

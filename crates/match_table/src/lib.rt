@@ -3,7 +3,7 @@
 #![tactic(auto)]
 
 mod entries;
-mod micros;
+mod operations;
 
 pub use entries::Entry;
-pub use micros::{Code, First, Micro, Second};
+pub use operations::{Code, First, Micro, Second};

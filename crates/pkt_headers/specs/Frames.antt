@@ -26,8 +26,8 @@ unfoldable pub tag_count : List ℕ → ℕ
 tag_count frame = if has_tag frame 14 then (if has_tag frame 18 then 2 else 1) else 0
 
 -- what stands behind the tags
-abbrev pub place_of_network : List ℕ → ℕ
-place_of_network frame = 14 + 4 * tag_count frame
+abbrev pub network_offset : List ℕ → ℕ
+network_offset frame = 14 + 4 * tag_count frame
 
 -- ---- IPv4
 
@@ -36,14 +36,14 @@ abbrev pub header_length : List ℕ → ℕ → ℕ
 header_length frame at = 4 * (slice_index frame at % 16)
 
 -- what follows the header
-abbrev pub place_of_transport : List ℕ → ℕ → ℕ
-place_of_transport frame at = at + header_length frame at
+abbrev pub transport_offset : List ℕ → ℕ → ℕ
+transport_offset frame at = at + header_length frame at
 
 -- a whole header of version 4 stands at the place
 unfoldable pub has_ipv4 : List ℕ → ℕ → Bool
 has_ipv4 frame at =
     type_before frame at == 0x0800 && nat_le (at + 20) (length frame) && slice_index frame at / 16 == 4
-    && nat_le 20 (header_length frame at) && nat_le (place_of_transport frame at) (length frame)
+    && nat_le 20 (header_length frame at) && nat_le (transport_offset frame at) (length frame)
 
 abbrev pub protocol_at : List ℕ → ℕ → ℕ
 protocol_at frame at = slice_index frame (at + 9)
@@ -57,9 +57,9 @@ is_first_fragment frame at = word_at frame (at + 6) % 2 ^ 13 == 0
 unfoldable pub carries_ports : List ℕ → ℕ → Bool
 carries_ports frame at =
     has_ipv4 frame at && is_first_fragment frame at && (protocol_at frame at == 6 || protocol_at frame at == 17)
-    && nat_le (place_of_transport frame at + 4) (length frame)
+    && nat_le (transport_offset frame at + 4) (length frame)
 
 -- the ports are those of TCP, and its byte of flags is there too
 unfoldable pub carries_flags : List ℕ → ℕ → Bool
 carries_flags frame at =
-    carries_ports frame at && protocol_at frame at == 6 && nat_le (place_of_transport frame at + 14) (length frame)
+    carries_ports frame at && protocol_at frame at == 6 && nat_le (transport_offset frame at + 14) (length frame)

@@ -3,15 +3,15 @@ use Rattle.std.specs.Prelude.{ℕ, List}
 use Rattle.pkt_headers.specs.declared.packets.Packet.{Packet}
 use Rattle.pkt_headers.specs.declared.packets.Attr.{Attr}
 use Rattle.pkt_headers.specs.declared.packets.Attr.TheVariants.{Packets, Bytes, Ttl, Flags, Flow}
-use Rattle.pkt_headers.specs.Frames.{place_of_network}
+use Rattle.pkt_headers.specs.Frames.{network_offset}
 use Rattle.pkt_headers.specs.Fields.{vector_at, ttl_at, flags_at}
 
 abbrev pub packet_in : List ℕ → ℕ → Packet
 packet_in frame length = record {
-  vec = vector_at frame (place_of_network frame);
+  vec = vector_at frame (network_offset frame);
   len = length;
-  ttl = ttl_at frame (place_of_network frame);
-  flags = flags_at frame (place_of_network frame);
+  ttl = ttl_at frame (network_offset frame);
+  flags = flags_at frame (network_offset frame);
 }
 
 abbrev pub weight_of : Packet → Attr → ℕ

@@ -1,6 +1,6 @@
 //! Where the headers of an Ethernet frame stand, and the fields in them.
 ghost use Rattle.std.specs.Prelude.{◌≡◌, ◌+◌, ◌*◌, ◌<◌, ◌≤◌, IsTrue, length};
-ghost use Rattle.pkt_headers.specs.Frames.{word_at, has_tag, tag_count, place_of_network, header_length, place_of_transport, has_ipv4, carries_ports, carries_flags};
+ghost use Rattle.pkt_headers.specs.Frames.{word_at, has_tag, tag_count, network_offset, header_length, transport_offset, has_ipv4, carries_ports, carries_flags};
 ghost use Rattle.pkt_headers.specs.Fields.{byte_if, two_if, four_if, vector_at};
 
 use key_mask::KEY_BYTES;
@@ -83,7 +83,7 @@ fn tags(frame: &[u8]) -> usize
 
 /// The place of what follows the type.
 pub(crate) fn network_place(frame: &[u8]) -> usize
-    ensures place { result ≡ place_of_network frame.now }
+    ensures place { result ≡ network_offset frame.now }
     ensures low { 14 ≤ result }
     ensures high { result ≤ 22 }
     ensures whole { 14 ≤ length frame.now → result ≤ length frame.now }
@@ -107,7 +107,7 @@ pub(crate) fn is_ipv4(frame: &[u8], at: usize) -> bool
     requires high { at ≤ 22 }
     ensures test { result ≡ has_ipv4 frame.now at }
     ensures fixed { IsTrue result → at + 20 ≤ length frame.now }
-    ensures whole { IsTrue result → place_of_transport frame.now at ≤ length frame.now }
+    ensures whole { IsTrue result → transport_offset frame.now at ≤ length frame.now }
 {
     if frame.len() < at + IPV4_BYTES || word(frame, at - 2) != IPV4 || frame[at] / 16 != 4 {
         return false;
@@ -124,7 +124,7 @@ pub(crate) fn has_ports(frame: &[u8], at: usize, ipv4: bool) -> bool
     requires fixed { IsTrue ipv4 → at + 20 ≤ length frame.now }
     ensures test { result ≡ carries_ports frame.now at }
     ensures fixed { IsTrue result → at + 20 ≤ length frame.now }
-    ensures room { IsTrue result → place_of_transport frame.now at + 4 ≤ length frame.now }
+    ensures room { IsTrue result → transport_offset frame.now at + 4 ≤ length frame.now }
 {
     // the low 13 bits are the fragment's offset
     if !ipv4 || word(frame, at + FRAGMENT) % 0x2000 != 0 {
@@ -142,7 +142,7 @@ pub(crate) fn has_flags(frame: &[u8], at: usize, ports: bool) -> bool
     requires fixed { IsTrue ports → at + 20 ≤ length frame.now }
     ensures test { result ≡ carries_flags frame.now at }
     ensures fixed { IsTrue result → at + 20 ≤ length frame.now }
-    ensures room { IsTrue result → place_of_transport frame.now at + 14 ≤ length frame.now }
+    ensures room { IsTrue result → transport_offset frame.now at + 14 ≤ length frame.now }
 {
     ports && frame[at + PROTOCOL] == TCP && at + header_bytes(frame, at) + 14 <= frame.len()
 }
@@ -183,8 +183,8 @@ fn two_where(there: bool, frame: &[u8], at: usize) -> [u8; 2]
 fn ports_where(there: bool, frame: &[u8], at: usize) -> [u8; 4]
     requires high { at ≤ 22 }
     requires fixed { IsTrue there → at + 20 ≤ length frame.now }
-    requires room { IsTrue there → place_of_transport frame.now at + 4 ≤ length frame.now }
-    ensures { result ≡ four_if there frame.now (place_of_transport frame.now at) }
+    requires room { IsTrue there → transport_offset frame.now at + 4 ≤ length frame.now }
+    ensures { result ≡ four_if there frame.now (transport_offset frame.now at) }
 {
     if there {
         four_where(true, frame, at + header_bytes(frame, at))
@@ -203,7 +203,7 @@ pub(crate) fn vector(frame: &[u8], at: usize, ipv4: bool, ports: bool) -> [u8; K
     requires fixed { IsTrue ipv4 → at + 20 ≤ length frame.now }
     requires ports { ports ≡ carries_ports frame.now at }
     requires ports_fixed { IsTrue ports → at + 20 ≤ length frame.now }
-    requires room { IsTrue ports → place_of_transport frame.now at + 4 ≤ length frame.now }
+    requires room { IsTrue ports → transport_offset frame.now at + 4 ≤ length frame.now }
     ensures { result ≡ vector_at frame.now at }
 {
     let ethernet = ETHERNET_BYTES <= frame.len();
@@ -221,8 +221,8 @@ pub(crate) fn vector(frame: &[u8], at: usize, ipv4: bool, ports: bool) -> [u8; K
 pub(crate) fn flags(frame: &[u8], at: usize, there: bool) -> u8
     requires high { at ≤ 22 }
     requires fixed { IsTrue there → at + 20 ≤ length frame.now }
-    requires room { IsTrue there → place_of_transport frame.now at + 14 ≤ length frame.now }
-    ensures { result ≡ byte_if there frame.now (place_of_transport frame.now at + 13) }
+    requires room { IsTrue there → transport_offset frame.now at + 14 ≤ length frame.now }
+    ensures { result ≡ byte_if there frame.now (transport_offset frame.now at + 13) }
 {
     if there {
         frame[at + header_bytes(frame, at) + 13]

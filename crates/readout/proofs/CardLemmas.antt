@@ -8,76 +8,76 @@ use Rattle.outside.specs.Told.{Stays, Grows}
 use Rattle.outside.specs.Sent.{CameInPart}
 use Rattle.outside.proofs.SentLemmas.{none_in_part}
 use Rattle.outside.proofs.ToldLemmas.{stays_same}
-use Rattle.reg_file.specs.Registers.{Cells}
+use Rattle.reg_file.specs.Registers.{Contents}
 use Rattle.sketch_defs.specs.Answers.{zero_share, rank_share, zeros_of, z_of, raw_of}
 use Rattle.sketch_defs.specs.Cells.{row_of}
 use Rattle.sketch_defs.proofs.TallyLemmas.{zeros_more, z_more}
 use Rattle.readout.specs.declared.views.Placed.{Placed}
 use Rattle.readout.specs.declared.views.Side.TheVariants.{Live}
-use Rattle.readout.specs.Standings.{Standing, no_place, place_at, live_bits, register_at, row_told, rows_told}
+use Rattle.readout.specs.PlacedTasks.{PlacedTask, no_place, place_at, live_bits, register_at, row_contents, rows_contents}
 use Rattle.readout.specs.Lines.{card_line}
 use Rattle.readout.specs.Judging.{line_of_card}
 use Rattle.readout.proofs.CellLemmas.{told_more, told_all, told_then}
 
 -- ---- the row
 
-pub length_row : (told : Cells) (place : Placed) → length (row_told told Live place) ≡ 2 ^ place.region.bits
+pub length_row : (told : Contents) (place : Placed) → length (row_contents told Live place) ≡ 2 ^ place.region.bits
 length_row told place = length-map-range_with_len (register_at told Live place) 0 (2 ^ place.region.bits)
 
-pub row_at : (told : Cells) (place : Placed) (index : ℕ) → index < 2 ^ place.region.bits
-    → slice_index (row_told told Live place) index ≡ register_at told Live place index
+pub row_at : (told : Contents) (place : Placed) (index : ℕ) → index < 2 ^ place.region.bits
+    → slice_index (row_contents told Live place) index ≡ register_at told Live place index
 row_at told place index inside = get_or-map-range_with_len (register_at told Live place) 0 (2 ^ place.region.bits) index index 0 inside (omega arith)
 
-pub row_whole : (told : Cells) (place : Placed) (index : ℕ) → index ≡ 2 ^ place.region.bits → take index (row_told told Live place) ≡ row_told told Live place
-row_whole told place index all = take_all index (row_told told Live place) (omega (arith, length_row told place))
+pub row_whole : (told : Contents) (place : Placed) (index : ℕ) → index ≡ 2 ^ place.region.bits → take index (row_contents told Live place) ≡ row_contents told Live place
+row_whole told place index all = take_all index (row_contents told Live place) (omega (arith, length_row told place))
 
-pub row_first : (told : Cells) (standing : Standing) → 0 < length standing.places
-    → row_of (rows_told told Live standing) 0 ≡ row_told told Live (place_at standing 0)
-unfolding rows_told
-row_first told standing some = get_or-map (row_told told Live) standing.places 0 no_place [] some
+pub row_first : (told : Contents) (placed : PlacedTask) → 0 < length placed.places
+    → row_of (rows_contents told Live placed) 0 ≡ row_contents told Live (place_at placed 0)
+unfolding rows_contents
+row_first told placed some = get_or-map (row_contents told Live) placed.places 0 no_place [] some
 
 -- ---- the tally so far
 
-abbrev pub CellAt : Placed → ℕ → ℕ → Cells → Type 0
+abbrev pub CellAt : Placed → ℕ → ℕ → Contents → Type 0
 CellAt place index cell told = cell ≡ register_at told Live place index
 
-abbrev pub ZerosSoFar : ℕ → Placed → ℕ → Cells → Type 0
-ZerosSoFar count place index told = count ≡ zeros_of (take index (row_told told Live place))
+abbrev pub ZerosSoFar : ℕ → Placed → ℕ → Contents → Type 0
+ZerosSoFar count place index told = count ≡ zeros_of (take index (row_contents told Live place))
 
-abbrev pub ZSoFar : ℕ → Placed → ℕ → Cells → Type 0
-ZSoFar z place index told = z ≡ z_of (take index (row_told told Live place))
+abbrev pub ZSoFar : ℕ → Placed → ℕ → Contents → Type 0
+ZSoFar z place index told = z ≡ z_of (take index (row_contents told Live place))
 
-pub zeros_step : (one two : Option Cells) (place : Placed) (count index cell : ℕ) → index < 2 ^ place.region.bits → Stays one two
+pub zeros_step : (one two : Option Contents) (place : Placed) (count index cell : ℕ) → index < 2 ^ place.region.bits → Stays one two
     → IfSome one (ZerosSoFar count place index) → IfSome two (CellAt place index cell) → IfSome two (ZerosSoFar (count + zero_share cell) place (index + 1))
 zeros_step one two place count index cell inside same far here =
     told_more one two (ZerosSoFar count place index) (CellAt place index cell) (ZerosSoFar (count + zero_share cell) place (index + 1)) same
-    (λ told p q. let long : index < length (row_told told Live place) = omega (arith, length_row told place) in
-    ap₂ (λ (n : ℕ) (m : ℕ). n + m) p (ap zero_share (q ∙ sym (row_at told place index inside))) ∙ sym (zeros_more (row_told told Live place) index long))
+    (λ told p q. let long : index < length (row_contents told Live place) = omega (arith, length_row told place) in
+    ap₂ (λ (n : ℕ) (m : ℕ). n + m) p (ap zero_share (q ∙ sym (row_at told place index inside))) ∙ sym (zeros_more (row_contents told Live place) index long))
     far here
 
-pub z_step : (one two : Option Cells) (place : Placed) (z index cell : ℕ) → index < 2 ^ place.region.bits → Stays one two
+pub z_step : (one two : Option Contents) (place : Placed) (z index cell : ℕ) → index < 2 ^ place.region.bits → Stays one two
     → IfSome one (ZSoFar z place index) → IfSome two (CellAt place index cell) → IfSome two (ZSoFar (z + rank_share cell) place (index + 1))
 z_step one two place z index cell inside same far here =
     told_more one two (ZSoFar z place index) (CellAt place index cell) (ZSoFar (z + rank_share cell) place (index + 1)) same
-    (λ told p q. let long : index < length (row_told told Live place) = omega (arith, length_row told place) in
-    ap₂ (λ (n : ℕ) (m : ℕ). n + m) p (ap rank_share (q ∙ sym (row_at told place index inside))) ∙ sym (z_more (row_told told Live place) index long))
+    (λ told p q. let long : index < length (row_contents told Live place) = omega (arith, length_row told place) in
+    ap₂ (λ (n : ℕ) (m : ℕ). n + m) p (ap rank_share (q ∙ sym (row_at told place index inside))) ∙ sym (z_more (row_contents told Live place) index long))
     far here
 
-pub zeros_start : (cells : Option Cells) (place : Placed) → IfSome cells (ZerosSoFar 0 place 0)
+pub zeros_start : (cells : Option Contents) (place : Placed) → IfSome cells (ZerosSoFar 0 place 0)
 zeros_start cells place = told_all cells (ZerosSoFar 0 place 0) (λ told. refl)
 
-pub z_start : (cells : Option Cells) (place : Placed) → IfSome cells (ZSoFar 0 place 0)
+pub z_start : (cells : Option Contents) (place : Placed) → IfSome cells (ZSoFar 0 place 0)
 z_start cells place = told_all cells (ZSoFar 0 place 0) (λ told. refl)
 
-pub zeros_done : (cells : Option Cells) (place : Placed) (count index : ℕ) → index ≡ 2 ^ place.region.bits → IfSome cells (ZerosSoFar count place index)
-    → IfSome cells (λ told. count ≡ zeros_of (row_told told Live place))
+pub zeros_done : (cells : Option Contents) (place : Placed) (count index : ℕ) → index ≡ 2 ^ place.region.bits → IfSome cells (ZerosSoFar count place index)
+    → IfSome cells (λ told. count ≡ zeros_of (row_contents told Live place))
 zeros_done cells place count index all far =
-    told_then cells (ZerosSoFar count place index) (λ told. count ≡ zeros_of (row_told told Live place)) (λ told p. p ∙ ap zeros_of (row_whole told place index all)) far
+    told_then cells (ZerosSoFar count place index) (λ told. count ≡ zeros_of (row_contents told Live place)) (λ told p. p ∙ ap zeros_of (row_whole told place index all)) far
 
-pub z_done : (cells : Option Cells) (place : Placed) (z index : ℕ) → index ≡ 2 ^ place.region.bits → IfSome cells (ZSoFar z place index)
-    → IfSome cells (λ told. z ≡ z_of (row_told told Live place))
+pub z_done : (cells : Option Contents) (place : Placed) (z index : ℕ) → index ≡ 2 ^ place.region.bits → IfSome cells (ZSoFar z place index)
+    → IfSome cells (λ told. z ≡ z_of (row_contents told Live place))
 z_done cells place z index all far =
-    told_then cells (ZSoFar z place index) (λ told. z ≡ z_of (row_told told Live place)) (λ told p. p ∙ ap z_of (row_whole told place index all)) far
+    told_then cells (ZSoFar z place index) (λ told. z ≡ z_of (row_contents told Live place)) (λ told p. p ∙ ap z_of (row_whole told place index all)) far
 
 -- ---- ranges
 
@@ -92,50 +92,50 @@ z_fits z size bits is high = omega (arith, pow-add 2 33 bits, ap (λ n. n * 2 ^ 
 
 -- ---- the line
 
-abbrev pub card_of : Standing → Cells → List ℕ
-card_of standing told = line_of_card (live_bits standing) standing.task (rows_told told Live standing)
+abbrev pub card_of : PlacedTask → Contents → List ℕ
+card_of placed told = line_of_card (live_bits placed) placed.task (rows_contents told Live placed)
 
-card_as : (told : Cells) (standing : Standing) (line : List ℕ) (count z : ℕ) → 0 < length standing.places
-    → line ≡ card_line standing.task.name count z (raw_of (live_bits standing) z)
-    → count ≡ zeros_of (row_told told Live (place_at standing 0)) → z ≡ z_of (row_told told Live (place_at standing 0))
-    → line ≡ card_of standing told
-card_as told standing line count z some is are sums =
-    let row = row_first told standing some in
-    is ∙ ap₂ (λ n m. card_line standing.task.name n m (raw_of (live_bits standing) m)) (are ∙ ap zeros_of (sym row)) (sums ∙ ap z_of (sym row))
+card_as : (told : Contents) (placed : PlacedTask) (line : List ℕ) (count z : ℕ) → 0 < length placed.places
+    → line ≡ card_line placed.task.name count z (raw_of (live_bits placed) z)
+    → count ≡ zeros_of (row_contents told Live (place_at placed 0)) → z ≡ z_of (row_contents told Live (place_at placed 0))
+    → line ≡ card_of placed told
+card_as told placed line count z some is are sums =
+    let row = row_first told placed some in
+    is ∙ ap₂ (λ n m. card_line placed.task.name n m (raw_of (live_bits placed) m)) (are ∙ ap zeros_of (sym row)) (sums ∙ ap z_of (sym row))
 
-abbrev BothTold : ℕ → ℕ → Standing → Cells → Type 0
-BothTold count z standing told = (count ≡ zeros_of (row_told told Live (place_at standing 0))) × (z ≡ z_of (row_told told Live (place_at standing 0)))
+abbrev BothTold : ℕ → ℕ → PlacedTask → Contents → Type 0
+BothTold count z placed told = (count ≡ zeros_of (row_contents told Live (place_at placed 0))) × (z ≡ z_of (row_contents told Live (place_at placed 0)))
 
-both_told : (cells : Option Cells) (standing : Standing) (count z : ℕ) → IfSome cells (λ told. count ≡ zeros_of (row_told told Live (place_at standing 0)))
-    → IfSome cells (λ told. z ≡ z_of (row_told told Live (place_at standing 0))) → IfSome cells (BothTold count z standing)
-both_told None standing count z p q = tt
-both_told (Some told) standing count z p q = (p, q)
+both_told : (cells : Option Contents) (placed : PlacedTask) (count z : ℕ) → IfSome cells (λ told. count ≡ zeros_of (row_contents told Live (place_at placed 0)))
+    → IfSome cells (λ told. z ≡ z_of (row_contents told Live (place_at placed 0))) → IfSome cells (BothTold count z placed)
+both_told None placed count z p q = tt
+both_told (Some told) placed count z p q = (p, q)
 
-pub card_sent : (cells : Option Cells) (a b : Option (List ℕ)) (standing : Standing) (line : List ℕ) (count z : ℕ) → 0 < length standing.places
-    → line ≡ card_line standing.task.name count z (raw_of (live_bits standing) z)
-    → IfSome cells (λ told. count ≡ zeros_of (row_told told Live (place_at standing 0)))
-    → IfSome cells (λ told. z ≡ z_of (row_told told Live (place_at standing 0)))
-    → Grows a line b → IfSome cells (λ told. Grows a (card_of standing told) b)
-card_sent cells a b standing line count z some is are sums grew =
-    told_then cells (BothTold count z standing) (λ told. Grows a (card_of standing told) b)
-    (λ told p. subst (λ t. Grows a t b) (card_as told standing line count z some is p.0 p.1) grew)
-    (both_told cells standing count z are sums)
+pub card_sent : (cells : Option Contents) (a b : Option (List ℕ)) (placed : PlacedTask) (line : List ℕ) (count z : ℕ) → 0 < length placed.places
+    → line ≡ card_line placed.task.name count z (raw_of (live_bits placed) z)
+    → IfSome cells (λ told. count ≡ zeros_of (row_contents told Live (place_at placed 0)))
+    → IfSome cells (λ told. z ≡ z_of (row_contents told Live (place_at placed 0)))
+    → Grows a line b → IfSome cells (λ told. Grows a (card_of placed told) b)
+card_sent cells a b placed line count z some is are sums grew =
+    told_then cells (BothTold count z placed) (λ told. Grows a (card_of placed told) b)
+    (λ told p. subst (λ t. Grows a t b) (card_as told placed line count z some is p.0 p.1) grew)
+    (both_told cells placed count z are sums)
 
-pub card_part : (cells : Option Cells) (a b : Option (List ℕ)) (standing : Standing) (line : List ℕ) (count z : ℕ) → 0 < length standing.places
-    → line ≡ card_line standing.task.name count z (raw_of (live_bits standing) z)
-    → IfSome cells (λ told. count ≡ zeros_of (row_told told Live (place_at standing 0)))
-    → IfSome cells (λ told. z ≡ z_of (row_told told Live (place_at standing 0)))
-    → CameInPart a line b → IfSome cells (λ told. CameInPart a (card_of standing told) b)
-card_part cells a b standing line count z some is are sums part =
-    told_then cells (BothTold count z standing) (λ told. CameInPart a (card_of standing told) b)
-    (λ told p. subst (λ t. CameInPart a t b) (card_as told standing line count z some is p.0 p.1) part)
-    (both_told cells standing count z are sums)
+pub card_part : (cells : Option Contents) (a b : Option (List ℕ)) (placed : PlacedTask) (line : List ℕ) (count z : ℕ) → 0 < length placed.places
+    → line ≡ card_line placed.task.name count z (raw_of (live_bits placed) z)
+    → IfSome cells (λ told. count ≡ zeros_of (row_contents told Live (place_at placed 0)))
+    → IfSome cells (λ told. z ≡ z_of (row_contents told Live (place_at placed 0)))
+    → CameInPart a line b → IfSome cells (λ told. CameInPart a (card_of placed told) b)
+card_part cells a b placed line count z some is are sums part =
+    told_then cells (BothTold count z placed) (λ told. CameInPart a (card_of placed told) b)
+    (λ told p. subst (λ t. CameInPart a t b) (card_as told placed line count z some is p.0 p.1) part)
+    (both_told cells placed count z are sums)
 
-some_card : (standing : Standing) (told : Cells) → 0 < length (card_of standing told)
+some_card : (placed : PlacedTask) (told : Contents) → 0 < length (card_of placed told)
 unfolding card_line
-some_card standing told = omega arith
+some_card placed told = omega arith
 
-pub card_unsent : (cells : Option Cells) (a : Option (List ℕ)) (standing : Standing) → IfSome cells (λ told. CameInPart a (card_of standing told) a)
-card_unsent cells a standing =
-    told_all cells (λ told. CameInPart a (card_of standing told) a)
-    (λ told. none_in_part a a (card_of standing told) (some_card standing told) (stays_same a))
+pub card_unsent : (cells : Option Contents) (a : Option (List ℕ)) (placed : PlacedTask) → IfSome cells (λ told. CameInPart a (card_of placed told) a)
+card_unsent cells a placed =
+    told_all cells (λ told. CameInPart a (card_of placed told) a)
+    (λ told. none_in_part a a (card_of placed told) (some_card placed told) (stays_same a))

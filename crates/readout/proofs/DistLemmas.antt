@@ -11,13 +11,13 @@ use Rattle.outside.specs.Told.{Stays, Grows}
 use Rattle.outside.specs.Sent.{CameSoFar, CameInFront, CameInPart}
 use Rattle.outside.proofs.SentLemmas.{none_in_part, front_of_part}
 use Rattle.outside.proofs.ToldLemmas.{stays_same}
-use Rattle.reg_file.specs.Registers.{Cells}
+use Rattle.reg_file.specs.Registers.{Contents}
 use Rattle.sketch_defs.specs.Answers.{Size, sizes_of}
 use Rattle.sketch_defs.proofs.EstimateLemmas.{power_le}
 use Rattle.sketch_defs.proofs.SizeLemmas.{sizes_of_run}
 use Rattle.readout.specs.declared.views.Placed.{Placed}
 use Rattle.readout.specs.declared.views.Side.TheVariants.{Live}
-use Rattle.readout.specs.Standings.{Standing, place_at, live_bits, row_told, rows_told}
+use Rattle.readout.specs.PlacedTasks.{PlacedTask, place_at, live_bits, row_contents, rows_contents}
 use Rattle.readout.specs.Lines.{size_line, dist_lines}
 use Rattle.readout.specs.Judging.{lines_of_dist}
 use Rattle.readout.proofs.PieceLemmas.{put_behind, gathered_more, gathered_some, block_sent, block_end_fault, block_body_fault, block_head_fault}
@@ -26,25 +26,25 @@ use Rattle.readout.proofs.CardLemmas.{CellAt, length_row, row_at, row_whole, row
 
 -- ---- the cells read
 
-abbrev pub ReadSoFar : List ℕ → Placed → ℕ → Cells → Type 0
-ReadSoFar cells place index told = cells ≡ take index (row_told told Live place)
+abbrev pub ReadSoFar : List ℕ → Placed → ℕ → Contents → Type 0
+ReadSoFar cells place index told = cells ≡ take index (row_contents told Live place)
 
-pub read_start : (cells : Option Cells) (place : Placed) → IfSome cells (ReadSoFar [] place 0)
+pub read_start : (cells : Option Contents) (place : Placed) → IfSome cells (ReadSoFar [] place 0)
 read_start cells place = told_all cells (ReadSoFar [] place 0) (λ told. refl)
 
-pub read_more : (one two : Option Cells) (place : Placed) (read : List ℕ) (index cell : ℕ) → index < 2 ^ place.region.bits → Stays one two
+pub read_more : (one two : Option Contents) (place : Placed) (read : List ℕ) (index cell : ℕ) → index < 2 ^ place.region.bits → Stays one two
     → IfSome one (ReadSoFar read place index) → IfSome two (CellAt place index cell) → IfSome two (ReadSoFar (read ++ cell ∷ []) place (index + 1))
 read_more one two place read index cell inside same far here =
     told_more one two (ReadSoFar read place index) (CellAt place index cell) (ReadSoFar (read ++ cell ∷ []) place (index + 1)) same
-    (λ told p q. let long : index < length (row_told told Live place) = omega (arith, length_row told place) in
+    (λ told p q. let long : index < length (row_contents told Live place) = omega (arith, length_row told place) in
     ap₂ (λ (l : List ℕ) (n : ℕ). l ++ n ∷ []) p (q ∙ sym (row_at told place index inside))
-    ∙ (sym (take-suc (row_told told Live place) index 0 long) ∙ ap (λ n. take n (row_told told Live place)) (sym (add-one index))))
+    ∙ (sym (take-suc (row_contents told Live place) index 0 long) ∙ ap (λ n. take n (row_contents told Live place)) (sym (add-one index))))
     far here
 
-pub read_done : (cells : Option Cells) (place : Placed) (read : List ℕ) (index : ℕ) → index ≡ 2 ^ place.region.bits
-    → IfSome cells (ReadSoFar read place index) → IfSome cells (λ told. read ≡ row_told told Live place)
+pub read_done : (cells : Option Contents) (place : Placed) (read : List ℕ) (index : ℕ) → index ≡ 2 ^ place.region.bits
+    → IfSome cells (ReadSoFar read place index) → IfSome cells (λ told. read ≡ row_contents told Live place)
 read_done cells place read index all far =
-    told_then cells (ReadSoFar read place index) (λ told. read ≡ row_told told Live place) (λ told p. p ∙ row_whole told place index all) far
+    told_then cells (ReadSoFar read place index) (λ told. read ≡ row_contents told Live place) (λ told p. p ∙ row_whole told place index all) far
 
 -- ---- runs
 
@@ -179,41 +179,41 @@ sizes_sent a b c d name line one two sizes is put more grew =
 
 -- ---- the task
 
-abbrev pub dist_of : Standing → Cells → List ℕ
-dist_of standing told = lines_of_dist standing.task (rows_told told Live standing)
+abbrev pub dist_of : PlacedTask → Contents → List ℕ
+dist_of placed told = lines_of_dist placed.task (rows_contents told Live placed)
 
-dist_as : (told : Cells) (standing : Standing) (read sorted : List ℕ) → 0 < length standing.places → sizes_of sorted ≡ sizes_of read
-    → read ≡ row_told told Live (place_at standing 0) → dist_lines standing.task.name (sizes_of sorted) ≡ dist_of standing told
-dist_as told standing read sorted some same is =
-    ap (dist_lines standing.task.name) (same ∙ ap sizes_of (is ∙ sym (row_first told standing some)))
+dist_as : (told : Contents) (placed : PlacedTask) (read sorted : List ℕ) → 0 < length placed.places → sizes_of sorted ≡ sizes_of read
+    → read ≡ row_contents told Live (place_at placed 0) → dist_lines placed.task.name (sizes_of sorted) ≡ dist_of placed told
+dist_as told placed read sorted some same is =
+    ap (dist_lines placed.task.name) (same ∙ ap sizes_of (is ∙ sym (row_first told placed some)))
 
-pub dist_sent : (cells : Option Cells) (a b : Option (List ℕ)) (standing : Standing) (read sorted : List ℕ) → 0 < length standing.places
-    → sizes_of sorted ≡ sizes_of read → IfSome cells (λ told. read ≡ row_told told Live (place_at standing 0))
-    → Grows a (dist_lines standing.task.name (sizes_of sorted)) b → IfSome cells (λ told. Grows a (dist_of standing told) b)
-dist_sent cells a b standing read sorted some same is grew =
-    told_then cells (λ told. read ≡ row_told told Live (place_at standing 0)) (λ told. Grows a (dist_of standing told) b)
-    (λ told p. subst (λ t. Grows a t b) (dist_as told standing read sorted some same p) grew) is
+pub dist_sent : (cells : Option Contents) (a b : Option (List ℕ)) (placed : PlacedTask) (read sorted : List ℕ) → 0 < length placed.places
+    → sizes_of sorted ≡ sizes_of read → IfSome cells (λ told. read ≡ row_contents told Live (place_at placed 0))
+    → Grows a (dist_lines placed.task.name (sizes_of sorted)) b → IfSome cells (λ told. Grows a (dist_of placed told) b)
+dist_sent cells a b placed read sorted some same is grew =
+    told_then cells (λ told. read ≡ row_contents told Live (place_at placed 0)) (λ told. Grows a (dist_of placed told) b)
+    (λ told p. subst (λ t. Grows a t b) (dist_as told placed read sorted some same p) grew) is
 
-pub dist_part : (cells : Option Cells) (a b : Option (List ℕ)) (standing : Standing) (read sorted : List ℕ) → 0 < length standing.places
-    → sizes_of sorted ≡ sizes_of read → IfSome cells (λ told. read ≡ row_told told Live (place_at standing 0))
-    → CameInPart a (dist_lines standing.task.name (sizes_of sorted)) b → IfSome cells (λ told. CameInPart a (dist_of standing told) b)
-dist_part cells a b standing read sorted some same is part =
-    told_then cells (λ told. read ≡ row_told told Live (place_at standing 0)) (λ told. CameInPart a (dist_of standing told) b)
-    (λ told p. subst (λ t. CameInPart a t b) (dist_as told standing read sorted some same p) part) is
+pub dist_part : (cells : Option Contents) (a b : Option (List ℕ)) (placed : PlacedTask) (read sorted : List ℕ) → 0 < length placed.places
+    → sizes_of sorted ≡ sizes_of read → IfSome cells (λ told. read ≡ row_contents told Live (place_at placed 0))
+    → CameInPart a (dist_lines placed.task.name (sizes_of sorted)) b → IfSome cells (λ told. CameInPart a (dist_of placed told) b)
+dist_part cells a b placed read sorted some same is part =
+    told_then cells (λ told. read ≡ row_contents told Live (place_at placed 0)) (λ told. CameInPart a (dist_of placed told) b)
+    (λ told p. subst (λ t. CameInPart a t b) (dist_as told placed read sorted some same p) part) is
 
-some_dist : (standing : Standing) (told : Cells) → 0 < length (dist_of standing told)
+some_dist : (placed : PlacedTask) (told : Contents) → 0 < length (dist_of placed told)
 unfolding dist_lines
-some_dist standing told = omega arith
+some_dist placed told = omega arith
 
-pub dist_unsent : (cells : Option Cells) (a : Option (List ℕ)) (standing : Standing) → IfSome cells (λ told. CameInPart a (dist_of standing told) a)
-dist_unsent cells a standing =
-    told_all cells (λ told. CameInPart a (dist_of standing told) a)
-    (λ told. none_in_part a a (dist_of standing told) (some_dist standing told) (stays_same a))
+pub dist_unsent : (cells : Option Contents) (a : Option (List ℕ)) (placed : PlacedTask) → IfSome cells (λ told. CameInPart a (dist_of placed told) a)
+dist_unsent cells a placed =
+    told_all cells (λ told. CameInPart a (dist_of placed told) a)
+    (λ told. none_in_part a a (dist_of placed told) (some_dist placed told) (stays_same a))
 
 -- ---- the room
 
-pub room_for : (found : Option Standing) (standing : Standing) (bits room : ℕ) → found ≡ Some standing → IfSome found (λ s. live_bits s ≤ bits) → 2 ^ bits ≤ room
-    → 2 ^ live_bits standing ≤ room
-room_for found standing bits room is enough has =
-    let fits : live_bits standing ≤ bits = rw is at enough in
-    omega (arith, power_le (live_bits standing) bits fits, has)
+pub room_for : (found : Option PlacedTask) (placed : PlacedTask) (bits room : ℕ) → found ≡ Some placed → IfSome found (λ s. live_bits s ≤ bits) → 2 ^ bits ≤ room
+    → 2 ^ live_bits placed ≤ room
+room_for found placed bits room is enough has =
+    let fits : live_bits placed ≤ bits = rw is at enough in
+    omega (arith, power_le (live_bits placed) bits fits, has)

@@ -4,4 +4,4 @@ mod CellLemmas
 mod DistLemmas
 mod PieceLemmas
 mod QueryLemmas
-mod StandingLemmas
+mod PlacedTaskLemmas

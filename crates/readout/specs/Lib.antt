@@ -1,4 +1,4 @@
 pub mod Judging
 pub mod Lines
-pub mod Standings
+pub mod PlacedTasks
 pub mod Stops

@@ -5,7 +5,7 @@ ghost use Rattle.outside.specs.Sent.{CameInPart};
 ghost use Rattle.sketch_defs.specs.declared.kinds.Kind.TheVariants.{Hll};
 ghost use Rattle.sketch_defs.specs.Answers.{zeros_of, z_of};
 ghost use Rattle.readout.specs.declared.views.Side.TheVariants.{Live};
-ghost use Rattle.readout.specs.Standings.{standing_at, place_at, live_bits, IsFit, IsShaped, row_told, rows_told};
+ghost use Rattle.readout.specs.PlacedTasks.{placed_task_at, place_at, live_bits, IsFit, IsShaped, row_contents, rows_contents};
 ghost use Rattle.readout.specs.Judging.{line_of_card};
 ghost use Rattle.readout.specs.Stops.{IsDeviceOf, IsStopOf};
 
@@ -25,22 +25,22 @@ fn tally_of<V: TaskView, R: RegFile>(
     at: usize,
     size: u32,
 ) -> Result<Tally, ReadFault>
-    requires fit { IsFit (V.plan view.now) (V.standings view.now) }
-    requires shaped { IsShaped (V.plan view.now) (R.dims regs.old) }
-    requires task { at < length (V.standings view.now) }
-    requires row { 0 < length (standing_at (V.standings view.now) at).places }
-    requires size { size ≡ 2 ^ live_bits (standing_at (V.standings view.now) at) }
+    requires fit { IsFit (V.geometry view.now) (V.tasks view.now) }
+    requires shaped { IsShaped (V.geometry view.now) (R.dims regs.old) }
+    requires task { at < length (V.tasks view.now) }
+    requires row { 0 < length (placed_task_at (V.tasks view.now) at).places }
+    requires size { size ≡ 2 ^ live_bits (placed_task_at (V.tasks view.now) at) }
     ensures later { R.faults regs.old ≤ R.faults regs.new }
     ensures cause { IfErr result (IsDeviceOf (R.faults regs.old) (R.faults regs.new)) }
     ensures dims { R.dims regs.new ≡ R.dims regs.old }
-    ensures cells { Stays (R.cells regs.old) (R.cells regs.new) }
+    ensures contents { Stays (R.contents regs.old) (R.contents regs.new) }
     ensures calls { Stays (R.calls regs.old) (R.calls regs.new) }
     ensures low { IfOk result (λ tally. size ≤ tally.z) }
     ensures high { IfOk result (λ tally. tally.z ≤ size * 2 ^ 33) }
-    ensures zeros { IfOk result (λ tally. IfSome (R.cells regs.new) (λ told.
-        tally.zeros ≡ zeros_of (row_told told Live (place_at (standing_at (V.standings view.now) at) 0)))) }
-    ensures z { IfOk result (λ tally. IfSome (R.cells regs.new) (λ told.
-        tally.z ≡ z_of (row_told told Live (place_at (standing_at (V.standings view.now) at) 0)))) }
+    ensures zeros { IfOk result (λ tally. IfSome (R.contents regs.new) (λ told.
+        tally.zeros ≡ zeros_of (row_contents told Live (place_at (placed_task_at (V.tasks view.now) at) 0)))) }
+    ensures z { IfOk result (λ tally. IfSome (R.contents regs.new) (λ told.
+        tally.z ≡ z_of (row_contents told Live (place_at (placed_task_at (V.tasks view.now) at) 0)))) }
 {
     let mut tally = Tally { zeros: 0, z: 0 };
     'cells: for index in 0..size {
@@ -53,27 +53,27 @@ fn tally_of<V: TaskView, R: RegFile>(
 }
 
 /// Sends the estimate of a task, with what it rests on.
-#[tactic(auto, using(crate::proofs::StandingLemmas::ranks_bits))]
+#[tactic(auto, using(crate::proofs::PlacedTaskLemmas::ranks_bits))]
 pub(crate) fn send_card<V: TaskView, R: RegFile, S: Sink>(
     view: &V,
     regs: &mut R,
     at: usize,
     sink: &mut S,
 ) -> Result<(), ReadFault>
-    requires fit { IsFit (V.plan view.now) (V.standings view.now) }
-    requires shaped { IsShaped (V.plan view.now) (R.dims regs.old) }
-    requires task { at < length (V.standings view.now) }
-    requires kind { (standing_at (V.standings view.now) at).task.kind ≡ Hll }
+    requires fit { IsFit (V.geometry view.now) (V.tasks view.now) }
+    requires shaped { IsShaped (V.geometry view.now) (R.dims regs.old) }
+    requires task { at < length (V.tasks view.now) }
+    requires kind { (placed_task_at (V.tasks view.now) at).task.kind ≡ Hll }
     ensures later { S.faults sink.old ≤ S.faults sink.new }
     ensures regs_later { R.faults regs.old ≤ R.faults regs.new }
     ensures cause { IfErr result (IsStopOf (R.faults regs.old) (R.faults regs.new) (S.faults sink.old) (S.faults sink.new)) }
     ensures dims { R.dims regs.new ≡ R.dims regs.old }
-    ensures cells { Stays (R.cells regs.old) (R.cells regs.new) }
+    ensures contents { Stays (R.contents regs.old) (R.contents regs.new) }
     ensures calls { Stays (R.calls regs.old) (R.calls regs.new) }
-    ensures sent { let standing = standing_at (V.standings view.now) at in OnOk result (IfSome (R.cells regs.new) (λ told. Grows (S.sent sink.old)
-        (line_of_card (live_bits standing) standing.task (rows_told told Live standing)) (S.sent sink.new))) }
-    ensures part { let standing = standing_at (V.standings view.now) at in OnErr result (IfSome (R.cells regs.new) (λ told. CameInPart (S.sent sink.old)
-        (line_of_card (live_bits standing) standing.task (rows_told told Live standing)) (S.sent sink.new))) }
+    ensures sent { let placed = placed_task_at (V.tasks view.now) at in OnOk result (IfSome (R.contents regs.new) (λ told. Grows (S.sent sink.old)
+        (line_of_card (live_bits placed) placed.task (rows_contents told Live placed)) (S.sent sink.new))) }
+    ensures part { let placed = placed_task_at (V.tasks view.now) at in OnErr result (IfSome (R.contents regs.new) (λ told. CameInPart (S.sent sink.old)
+        (line_of_card (live_bits placed) placed.task (rows_contents told Live placed)) (S.sent sink.new))) }
 {
     let task = view.task(at);
     let part = first_place(view, at).region;

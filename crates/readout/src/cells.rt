@@ -2,7 +2,7 @@
 ghost use Rattle.std.specs.Prelude.{◌≡◌, ◌++◌, ◌^◌, ◌<◌, ◌≤◌, length, IfSome, IfErr, OnOk, OnErr};
 ghost use Rattle.outside.specs.Told.{Stays, Grows};
 ghost use Rattle.outside.specs.Sent.{CameSoFar, CameInFront, CameInPart};
-ghost use Rattle.readout.specs.Standings.{standing_at, place_at, block_of, HasSide, IsFit, IsShaped, register_at, row_told, rows_told};
+ghost use Rattle.readout.specs.PlacedTasks.{placed_task_at, place_at, block_of, HasSide, IsFit, IsShaped, register_at, row_contents, rows_contents};
 ghost use Rattle.readout.specs.Lines.{cell_line, row_lines, rows_lines};
 ghost use Rattle.sketch_lower.specs.Operations.{start_of};
 ghost use Rattle.readout.specs.Judging.{head_of, lines_of_cells, side_size};
@@ -36,23 +36,23 @@ fn gather_cell<V: TaskView, R: RegFile, S: Sink>(
     sink: &mut S,
     piece: &mut Piece,
 ) -> Result<(), ReadFault>
-    requires fit { IsFit (V.plan view.now) (V.standings view.now) }
-    requires shaped { IsShaped (V.plan view.now) (R.dims regs.old) }
-    requires task { source.task < length (V.standings view.now) }
-    requires row { row < length (standing_at (V.standings view.now) source.task).places }
-    requires side { HasSide source.side (standing_at (V.standings view.now) source.task) }
-    requires index { index < 2 ^ (block_of source.side (place_at (standing_at (V.standings view.now) source.task) row)).bits }
+    requires fit { IsFit (V.geometry view.now) (V.tasks view.now) }
+    requires shaped { IsShaped (V.geometry view.now) (R.dims regs.old) }
+    requires task { source.task < length (V.tasks view.now) }
+    requires row { row < length (placed_task_at (V.tasks view.now) source.task).places }
+    requires side { HasSide source.side (placed_task_at (V.tasks view.now) source.task) }
+    requires index { index < 2 ^ (block_of source.side (place_at (placed_task_at (V.tasks view.now) source.task) row)).bits }
     ensures later { S.faults sink.old ≤ S.faults sink.new }
     ensures regs_later { R.faults regs.old ≤ R.faults regs.new }
     ensures cause { IfErr result (IsStopOf (R.faults regs.old) (R.faults regs.new) (S.faults sink.old) (S.faults sink.new)) }
     ensures dims { R.dims regs.new ≡ R.dims regs.old }
-    ensures cells { Stays (R.cells regs.old) (R.cells regs.new) }
+    ensures contents { Stays (R.contents regs.old) (R.contents regs.new) }
     ensures calls { Stays (R.calls regs.old) (R.calls regs.new) }
-    ensures sent { OnOk result (IfSome (R.cells regs.new) (λ told. CameSoFar (S.sent sink.old)
-        (piece.old.bytes ++ cell_line source.start row index (register_at told source.side (place_at (standing_at (V.standings view.now) source.task) row) index))
+    ensures sent { OnOk result (IfSome (R.contents regs.new) (λ told. CameSoFar (S.sent sink.old)
+        (piece.old.bytes ++ cell_line source.start row index (register_at told source.side (place_at (placed_task_at (V.tasks view.now) source.task) row) index))
         piece.new.bytes (S.sent sink.new))) }
-    ensures part { OnErr result (IfSome (R.cells regs.new) (λ told. CameInFront (S.sent sink.old)
-        (piece.old.bytes ++ cell_line source.start row index (register_at told source.side (place_at (standing_at (V.standings view.now) source.task) row) index))
+    ensures part { OnErr result (IfSome (R.contents regs.new) (λ told. CameInFront (S.sent sink.old)
+        (piece.old.bytes ++ cell_line source.start row index (register_at told source.side (place_at (placed_task_at (V.tasks view.now) source.task) row) index))
         (S.sent sink.new))) }
 {
     match view.cell(regs, source.task, source.side, row, index) {
@@ -70,22 +70,22 @@ fn gather_row<V: TaskView, R: RegFile, S: Sink>(
     sink: &mut S,
     piece: &mut Piece,
 ) -> Result<(), ReadFault>
-    requires fit { IsFit (V.plan view.now) (V.standings view.now) }
-    requires shaped { IsShaped (V.plan view.now) (R.dims regs.old) }
-    requires task { source.task < length (V.standings view.now) }
-    requires row { row < length (standing_at (V.standings view.now) source.task).places }
-    requires side { HasSide source.side (standing_at (V.standings view.now) source.task) }
+    requires fit { IsFit (V.geometry view.now) (V.tasks view.now) }
+    requires shaped { IsShaped (V.geometry view.now) (R.dims regs.old) }
+    requires task { source.task < length (V.tasks view.now) }
+    requires row { row < length (placed_task_at (V.tasks view.now) source.task).places }
+    requires side { HasSide source.side (placed_task_at (V.tasks view.now) source.task) }
     ensures later { S.faults sink.old ≤ S.faults sink.new }
     ensures regs_later { R.faults regs.old ≤ R.faults regs.new }
     ensures cause { IfErr result (IsStopOf (R.faults regs.old) (R.faults regs.new) (S.faults sink.old) (S.faults sink.new)) }
     ensures dims { R.dims regs.new ≡ R.dims regs.old }
-    ensures cells { Stays (R.cells regs.old) (R.cells regs.new) }
+    ensures contents { Stays (R.contents regs.old) (R.contents regs.new) }
     ensures calls { Stays (R.calls regs.old) (R.calls regs.new) }
-    ensures sent { OnOk result (IfSome (R.cells regs.new) (λ told. CameSoFar (S.sent sink.old)
-        (piece.old.bytes ++ row_lines source.start row (row_told told source.side (place_at (standing_at (V.standings view.now) source.task) row)))
+    ensures sent { OnOk result (IfSome (R.contents regs.new) (λ told. CameSoFar (S.sent sink.old)
+        (piece.old.bytes ++ row_lines source.start row (row_contents told source.side (place_at (placed_task_at (V.tasks view.now) source.task) row)))
         piece.new.bytes (S.sent sink.new))) }
-    ensures part { OnErr result (IfSome (R.cells regs.new) (λ told. CameInFront (S.sent sink.old)
-        (piece.old.bytes ++ row_lines source.start row (row_told told source.side (place_at (standing_at (V.standings view.now) source.task) row)))
+    ensures part { OnErr result (IfSome (R.contents regs.new) (λ told. CameInFront (S.sent sink.old)
+        (piece.old.bytes ++ row_lines source.start row (row_contents told source.side (place_at (placed_task_at (V.tasks view.now) source.task) row)))
         (S.sent sink.new))) }
 {
     let size = cell_count(part_of(view.placed(source.task, row), source.side));
@@ -107,22 +107,22 @@ fn gather_rows<V: TaskView, R: RegFile, S: Sink>(
     sink: &mut S,
     piece: &mut Piece,
 ) -> Result<(), ReadFault>
-    requires fit { IsFit (V.plan view.now) (V.standings view.now) }
-    requires shaped { IsShaped (V.plan view.now) (R.dims regs.old) }
-    requires task { source.task < length (V.standings view.now) }
-    requires rows { rows ≡ length (standing_at (V.standings view.now) source.task).places }
-    requires side { HasSide source.side (standing_at (V.standings view.now) source.task) }
+    requires fit { IsFit (V.geometry view.now) (V.tasks view.now) }
+    requires shaped { IsShaped (V.geometry view.now) (R.dims regs.old) }
+    requires task { source.task < length (V.tasks view.now) }
+    requires rows { rows ≡ length (placed_task_at (V.tasks view.now) source.task).places }
+    requires side { HasSide source.side (placed_task_at (V.tasks view.now) source.task) }
     ensures later { S.faults sink.old ≤ S.faults sink.new }
     ensures regs_later { R.faults regs.old ≤ R.faults regs.new }
     ensures cause { IfErr result (IsStopOf (R.faults regs.old) (R.faults regs.new) (S.faults sink.old) (S.faults sink.new)) }
     ensures dims { R.dims regs.new ≡ R.dims regs.old }
-    ensures cells { Stays (R.cells regs.old) (R.cells regs.new) }
+    ensures contents { Stays (R.contents regs.old) (R.contents regs.new) }
     ensures calls { Stays (R.calls regs.old) (R.calls regs.new) }
-    ensures sent { OnOk result (IfSome (R.cells regs.new) (λ told. CameSoFar (S.sent sink.old)
-        (piece.old.bytes ++ rows_lines source.start 0 (rows_told told source.side (standing_at (V.standings view.now) source.task)))
+    ensures sent { OnOk result (IfSome (R.contents regs.new) (λ told. CameSoFar (S.sent sink.old)
+        (piece.old.bytes ++ rows_lines source.start 0 (rows_contents told source.side (placed_task_at (V.tasks view.now) source.task)))
         piece.new.bytes (S.sent sink.new))) }
-    ensures part { OnErr result (IfSome (R.cells regs.new) (λ told. CameInFront (S.sent sink.old)
-        (piece.old.bytes ++ rows_lines source.start 0 (rows_told told source.side (standing_at (V.standings view.now) source.task)))
+    ensures part { OnErr result (IfSome (R.contents regs.new) (λ told. CameInFront (S.sent sink.old)
+        (piece.old.bytes ++ rows_lines source.start 0 (rows_contents told source.side (placed_task_at (V.tasks view.now) source.task)))
         (S.sent sink.new))) }
 {
     'rows: for row in 0..rows {
@@ -136,18 +136,18 @@ fn gather_rows<V: TaskView, R: RegFile, S: Sink>(
 
 /// What the cells of the task started at.
 fn start_of<V: TaskView>(view: &V, at: usize) -> u32
-    requires { at < length (V.standings view.now) }
-    ensures { result ≡ start_of (standing_at (V.standings view.now) at).task.kind }
+    requires { at < length (V.tasks view.now) }
+    ensures { result ≡ start_of (placed_task_at (V.tasks view.now) at).task.kind }
 {
     start_value(view.task(at).kind())
 }
 
 /// The line that begins the block of the task.
 fn head_of<V: TaskView>(view: &V, at: usize, side: Side) -> Line
-    requires fit { IsFit (V.plan view.now) (V.standings view.now) }
-    requires task { at < length (V.standings view.now) }
-    requires side { HasSide side (standing_at (V.standings view.now) at) }
-    ensures { result.bytes ≡ head_of side (standing_at (V.standings view.now) at) }
+    requires fit { IsFit (V.geometry view.now) (V.tasks view.now) }
+    requires task { at < length (V.tasks view.now) }
+    requires side { HasSide side (placed_task_at (V.tasks view.now) at) }
+    ensures { result.bytes ≡ head_of side (placed_task_at (V.tasks view.now) at) }
 {
     let task = view.task(at);
     let size = cell_count(part_of(first_place(view, at), side));
@@ -155,7 +155,7 @@ fn head_of<V: TaskView>(view: &V, at: usize, side: Side) -> Line
 }
 
 /// Sends the cells of a task, row by row.
-#[tactic(auto, using(crate::proofs::StandingLemmas::rows_placed))]
+#[tactic(auto, using(crate::proofs::PlacedTaskLemmas::rows_placed))]
 pub(crate) fn send_cells<V: TaskView, R: RegFile, S: Sink>(
     view: &V,
     regs: &mut R,
@@ -163,20 +163,20 @@ pub(crate) fn send_cells<V: TaskView, R: RegFile, S: Sink>(
     side: Side,
     sink: &mut S,
 ) -> Result<(), ReadFault>
-    requires fit { IsFit (V.plan view.now) (V.standings view.now) }
-    requires shaped { IsShaped (V.plan view.now) (R.dims regs.old) }
-    requires task { at < length (V.standings view.now) }
-    requires side { HasSide side (standing_at (V.standings view.now) at) }
+    requires fit { IsFit (V.geometry view.now) (V.tasks view.now) }
+    requires shaped { IsShaped (V.geometry view.now) (R.dims regs.old) }
+    requires task { at < length (V.tasks view.now) }
+    requires side { HasSide side (placed_task_at (V.tasks view.now) at) }
     ensures later { S.faults sink.old ≤ S.faults sink.new }
     ensures regs_later { R.faults regs.old ≤ R.faults regs.new }
     ensures cause { IfErr result (IsStopOf (R.faults regs.old) (R.faults regs.new) (S.faults sink.old) (S.faults sink.new)) }
     ensures dims { R.dims regs.new ≡ R.dims regs.old }
-    ensures cells { Stays (R.cells regs.old) (R.cells regs.new) }
+    ensures contents { Stays (R.contents regs.old) (R.contents regs.new) }
     ensures calls { Stays (R.calls regs.old) (R.calls regs.new) }
-    ensures sent { let standing = standing_at (V.standings view.now) at in OnOk result (IfSome (R.cells regs.new) (λ told. Grows (S.sent sink.old)
-        (lines_of_cells side (side_size side standing) standing.task (rows_told told side standing)) (S.sent sink.new))) }
-    ensures part { let standing = standing_at (V.standings view.now) at in OnErr result (IfSome (R.cells regs.new) (λ told. CameInPart (S.sent sink.old)
-        (lines_of_cells side (side_size side standing) standing.task (rows_told told side standing)) (S.sent sink.new))) }
+    ensures sent { let placed = placed_task_at (V.tasks view.now) at in OnOk result (IfSome (R.contents regs.new) (λ told. Grows (S.sent sink.old)
+        (lines_of_cells side (side_size side placed) placed.task (rows_contents told side placed)) (S.sent sink.new))) }
+    ensures part { let placed = placed_task_at (V.tasks view.now) at in OnErr result (IfSome (R.contents regs.new) (λ told. CameInPart (S.sent sink.old)
+        (lines_of_cells side (side_size side placed) placed.task (rows_contents told side placed)) (S.sent sink.new))) }
 {
     let source = Source {
         task: at,

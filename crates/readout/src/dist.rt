@@ -7,7 +7,7 @@ ghost use Rattle.outside.specs.Told.{Stays, Grows};
 ghost use Rattle.outside.specs.Sent.{CameSoFar, CameInFront, CameInPart};
 ghost use Rattle.sketch_defs.specs.Answers.{Size, sizes_of};
 ghost use Rattle.readout.specs.declared.views.Side.TheVariants.{Live};
-ghost use Rattle.readout.specs.Standings.{standing_at, place_at, live_bits, IsFit, IsShaped, row_told, rows_told};
+ghost use Rattle.readout.specs.PlacedTasks.{placed_task_at, place_at, live_bits, IsFit, IsShaped, row_contents, rows_contents};
 ghost use Rattle.readout.specs.Lines.{size_line, dist_lines};
 ghost use Rattle.readout.specs.Judging.{lines_of_dist};
 ghost use Rattle.readout.specs.Stops.{IsDeviceOf, IsWriteOf, IsStopOf};
@@ -29,20 +29,20 @@ fn read_row<V: TaskView, R: RegFile>(
     size: u32,
     cells: &mut Vec<u32>,
 ) -> Result<(), ReadFault>
-    requires fit { IsFit (V.plan view.now) (V.standings view.now) }
-    requires shaped { IsShaped (V.plan view.now) (R.dims regs.old) }
-    requires task { at < length (V.standings view.now) }
-    requires row { 0 < length (standing_at (V.standings view.now) at).places }
-    requires size { size ≡ 2 ^ live_bits (standing_at (V.standings view.now) at) }
+    requires fit { IsFit (V.geometry view.now) (V.tasks view.now) }
+    requires shaped { IsShaped (V.geometry view.now) (R.dims regs.old) }
+    requires task { at < length (V.tasks view.now) }
+    requires row { 0 < length (placed_task_at (V.tasks view.now) at).places }
+    requires size { size ≡ 2 ^ live_bits (placed_task_at (V.tasks view.now) at) }
     requires room { size ≤ vec_capacity cells.old }
     ensures later { R.faults regs.old ≤ R.faults regs.new }
     ensures cause { IfErr result (IsDeviceOf (R.faults regs.old) (R.faults regs.new)) }
     ensures dims { R.dims regs.new ≡ R.dims regs.old }
-    ensures cells { Stays (R.cells regs.old) (R.cells regs.new) }
+    ensures contents { Stays (R.contents regs.old) (R.contents regs.new) }
     ensures calls { Stays (R.calls regs.old) (R.calls regs.new) }
     ensures capacity { vec_capacity cells.old ≤ vec_capacity cells.new }
-    ensures told { OnOk result (IfSome (R.cells regs.new) (λ told.
-        cells.new.items ≡ row_told told Live (place_at (standing_at (V.standings view.now) at) 0))) }
+    ensures told { OnOk result (IfSome (R.contents regs.new) (λ told.
+        cells.new.items ≡ row_contents told Live (place_at (placed_task_at (V.tasks view.now) at) 0))) }
 {
     cells.clear();
     'cells: for index in 0..size {
@@ -132,21 +132,21 @@ pub(crate) fn send_dist<V: TaskView, R: RegFile, S: Sink>(
     cells: &mut Vec<u32>,
     sink: &mut S,
 ) -> Result<(), ReadFault>
-    requires fit { IsFit (V.plan view.now) (V.standings view.now) }
-    requires shaped { IsShaped (V.plan view.now) (R.dims regs.old) }
-    requires task { at < length (V.standings view.now) }
-    requires room { 2 ^ live_bits (standing_at (V.standings view.now) at) ≤ vec_capacity cells.old }
+    requires fit { IsFit (V.geometry view.now) (V.tasks view.now) }
+    requires shaped { IsShaped (V.geometry view.now) (R.dims regs.old) }
+    requires task { at < length (V.tasks view.now) }
+    requires room { 2 ^ live_bits (placed_task_at (V.tasks view.now) at) ≤ vec_capacity cells.old }
     ensures later { S.faults sink.old ≤ S.faults sink.new }
     ensures regs_later { R.faults regs.old ≤ R.faults regs.new }
     ensures cause { IfErr result (IsStopOf (R.faults regs.old) (R.faults regs.new) (S.faults sink.old) (S.faults sink.new)) }
     ensures dims { R.dims regs.new ≡ R.dims regs.old }
-    ensures cells { Stays (R.cells regs.old) (R.cells regs.new) }
+    ensures contents { Stays (R.contents regs.old) (R.contents regs.new) }
     ensures calls { Stays (R.calls regs.old) (R.calls regs.new) }
     ensures capacity { vec_capacity cells.old ≤ vec_capacity cells.new }
-    ensures sent { let standing = standing_at (V.standings view.now) at in OnOk result (IfSome (R.cells regs.new) (λ told. Grows (S.sent sink.old)
-        (lines_of_dist standing.task (rows_told told Live standing)) (S.sent sink.new))) }
-    ensures part { let standing = standing_at (V.standings view.now) at in OnErr result (IfSome (R.cells regs.new) (λ told. CameInPart (S.sent sink.old)
-        (lines_of_dist standing.task (rows_told told Live standing)) (S.sent sink.new))) }
+    ensures sent { let placed = placed_task_at (V.tasks view.now) at in OnOk result (IfSome (R.contents regs.new) (λ told. Grows (S.sent sink.old)
+        (lines_of_dist placed.task (rows_contents told Live placed)) (S.sent sink.new))) }
+    ensures part { let placed = placed_task_at (V.tasks view.now) at in OnErr result (IfSome (R.contents regs.new) (λ told. CameInPart (S.sent sink.old)
+        (lines_of_dist placed.task (rows_contents told Live placed)) (S.sent sink.new))) }
 {
     let size = cell_count(first_place(view, at).region);
     match read_row(view, regs, at, size, cells) {

@@ -1,7 +1,7 @@
 //! Which task is read, or why none.
 ghost use Rattle.std.specs.Prelude.{◌≡◌, ◌+◌, ◌^◌, ◌<◌, ◌≤◌, length, true, Some, Ok, Err, option_map, is_some, IfSome, IfOk, MatchResult};
 ghost use Rattle.sketch_defs.specs.declared.kinds.Kind.TheVariants.{Hll};
-ghost use Rattle.readout.specs.Standings.{standing_at, place_at, found_in, frozen_bits, block_of, HasSide, IsFit};
+ghost use Rattle.readout.specs.PlacedTasks.{placed_task_at, place_at, task_named, frozen_bits, block_of, HasSide, IsFit};
 ghost use Rattle.readout.specs.Judging.{answers_keys, judged_cells, judged_query, judged_dist, judged_card};
 
 use crate::faults::ReadFault;
@@ -11,10 +11,10 @@ use sketch_defs::{Kind, Name, Task};
 use task_filters::Filter;
 
 /// The place of the live task of this name.
-#[tactic(auto, using(crate::proofs::StandingLemmas::found_at, crate::proofs::StandingLemmas::found_below))]
+#[tactic(auto, using(crate::proofs::PlacedTaskLemmas::found_at, crate::proofs::PlacedTaskLemmas::found_below))]
 fn find_task<V: TaskView>(view: &V, name: &Name) -> Option<usize>
-    ensures found { found_in name.now (V.standings view.now) ≡ option_map (standing_at (V.standings view.now)) result }
-    ensures below { IfSome result (λ at. at < length (V.standings view.now)) }
+    ensures found { task_named name.now (V.tasks view.now) ≡ option_map (placed_task_at (V.tasks view.now)) result }
+    ensures below { IfSome result (λ at. at < length (V.tasks view.now)) }
 {
     view.find(name)
 }
@@ -26,12 +26,12 @@ pub(crate) fn judge_cells<V: TaskView>(
     name: &Name,
     side: Side,
 ) -> Result<usize, ReadFault>
-    requires { IsFit (V.plan view.now) (V.standings view.now) }
+    requires { IsFit (V.geometry view.now) (V.tasks view.now) }
     ensures judged { MatchResult result
-        (λ at. judged_cells side (found_in name.now (V.standings view.now)) ≡ Ok (standing_at (V.standings view.now) at))
-        (λ fault. judged_cells side (found_in name.now (V.standings view.now)) ≡ Err fault) }
-    ensures below { IfOk result (λ at. at < length (V.standings view.now)) }
-    ensures side { IfOk result (λ at. HasSide side (standing_at (V.standings view.now) at)) }
+        (λ at. judged_cells side (task_named name.now (V.tasks view.now)) ≡ Ok (placed_task_at (V.tasks view.now) at))
+        (λ fault. judged_cells side (task_named name.now (V.tasks view.now)) ≡ Err fault) }
+    ensures below { IfOk result (λ at. at < length (V.tasks view.now)) }
+    ensures side { IfOk result (λ at. HasSide side (placed_task_at (V.tasks view.now) at)) }
 {
     let Some(at) = find_task(view, name) else {
         return Err(ReadFault::Unknown);
@@ -49,22 +49,22 @@ pub(crate) fn judge_cells<V: TaskView>(
 }
 
 /// Whether the task has frozen partitions.
-#[tactic(auto, using(crate::proofs::StandingLemmas::bits_where_frozen))]
+#[tactic(auto, using(crate::proofs::PlacedTaskLemmas::bits_where_frozen))]
 fn is_frozen<V: TaskView>(view: &V, at: usize) -> bool
-    requires fit { IsFit (V.plan view.now) (V.standings view.now) }
-    requires task { at < length (V.standings view.now) }
-    ensures { result ≡ is_some (frozen_bits (standing_at (V.standings view.now) at)) }
+    requires fit { IsFit (V.geometry view.now) (V.tasks view.now) }
+    requires task { at < length (V.tasks view.now) }
+    ensures { result ≡ is_some (frozen_bits (placed_task_at (V.tasks view.now) at)) }
 {
     first_place(view, at).frozen.is_some()
 }
 
 /// Where the first row of a task stands.
-#[tactic(auto, using(crate::proofs::StandingLemmas::rows_placed))]
+#[tactic(auto, using(crate::proofs::PlacedTaskLemmas::rows_placed))]
 pub(crate) fn first_place<V: TaskView>(view: &V, at: usize) -> Placed
-    requires fit { IsFit (V.plan view.now) (V.standings view.now) }
-    requires task { at < length (V.standings view.now) }
-    ensures value { result ≡ place_at (standing_at (V.standings view.now) at) 0 }
-    ensures exists { 0 < length (standing_at (V.standings view.now) at).places }
+    requires fit { IsFit (V.geometry view.now) (V.tasks view.now) }
+    requires task { at < length (V.tasks view.now) }
+    ensures value { result ≡ place_at (placed_task_at (V.tasks view.now) at) 0 }
+    ensures exists { 0 < length (placed_task_at (V.tasks view.now) at).places }
 {
     let rows = row_count(view.task(at));
     prove!(0 < rows);
@@ -72,7 +72,7 @@ pub(crate) fn first_place<V: TaskView>(view: &V, at: usize) -> Placed
 }
 
 /// How many rows the task has.
-#[tactic(auto, using(crate::proofs::StandingLemmas::some_rows, crate::proofs::StandingLemmas::few_rows))]
+#[tactic(auto, using(crate::proofs::PlacedTaskLemmas::some_rows, crate::proofs::PlacedTaskLemmas::few_rows))]
 pub(crate) fn row_count(task: &Task) -> u32
     ensures value { result ≡ task.now.rows }
     ensures some { 1 ≤ result }
@@ -113,10 +113,10 @@ pub(crate) fn judge_query<V: TaskView>(
     at: &Filter,
 ) -> Result<usize, ReadFault>
     ensures judged { MatchResult result
-        (λ task. judged_query at.now (found_in name.now (V.standings view.now)) ≡ Ok (standing_at (V.standings view.now) task))
-        (λ fault. judged_query at.now (found_in name.now (V.standings view.now)) ≡ Err fault) }
-    ensures below { IfOk result (λ task. task < length (V.standings view.now)) }
-    ensures kind { IfOk result (λ task. answers_keys (standing_at (V.standings view.now) task).task.kind ≡ true) }
+        (λ task. judged_query at.now (task_named name.now (V.tasks view.now)) ≡ Ok (placed_task_at (V.tasks view.now) task))
+        (λ fault. judged_query at.now (task_named name.now (V.tasks view.now)) ≡ Err fault) }
+    ensures below { IfOk result (λ task. task < length (V.tasks view.now)) }
+    ensures kind { IfOk result (λ task. answers_keys (placed_task_at (V.tasks view.now) task).task.kind ≡ true) }
 {
     let Some(number) = find_task(view, name) else {
         return Err(ReadFault::Unknown);
@@ -144,10 +144,10 @@ fn answers_keys(kind: Kind) -> bool
 /// The place of the task whose sizes are told, or the first cause why there are none.
 pub(crate) fn judge_dist<V: TaskView>(view: &V, name: &Name) -> Result<usize, ReadFault>
     ensures judged { MatchResult result
-        (λ at. judged_dist (found_in name.now (V.standings view.now)) ≡ Ok (standing_at (V.standings view.now) at))
-        (λ fault. judged_dist (found_in name.now (V.standings view.now)) ≡ Err fault) }
-    ensures below { IfOk result (λ at. at < length (V.standings view.now)) }
-    ensures found { IfOk result (λ at. found_in name.now (V.standings view.now) ≡ Some (standing_at (V.standings view.now) at)) }
+        (λ at. judged_dist (task_named name.now (V.tasks view.now)) ≡ Ok (placed_task_at (V.tasks view.now) at))
+        (λ fault. judged_dist (task_named name.now (V.tasks view.now)) ≡ Err fault) }
+    ensures below { IfOk result (λ at. at < length (V.tasks view.now)) }
+    ensures found { IfOk result (λ at. task_named name.now (V.tasks view.now) ≡ Some (placed_task_at (V.tasks view.now) at)) }
 {
     let Some(at) = find_task(view, name) else {
         return Err(ReadFault::Unknown);
@@ -161,10 +161,10 @@ pub(crate) fn judge_dist<V: TaskView>(view: &V, name: &Name) -> Result<usize, Re
 /// The place of the task whose estimate is told, or the first cause why there is none.
 pub(crate) fn judge_card<V: TaskView>(view: &V, name: &Name) -> Result<usize, ReadFault>
     ensures judged { MatchResult result
-        (λ at. judged_card (found_in name.now (V.standings view.now)) ≡ Ok (standing_at (V.standings view.now) at))
-        (λ fault. judged_card (found_in name.now (V.standings view.now)) ≡ Err fault) }
-    ensures below { IfOk result (λ at. at < length (V.standings view.now)) }
-    ensures kind { IfOk result (λ at. (standing_at (V.standings view.now) at).task.kind ≡ Hll) }
+        (λ at. judged_card (task_named name.now (V.tasks view.now)) ≡ Ok (placed_task_at (V.tasks view.now) at))
+        (λ fault. judged_card (task_named name.now (V.tasks view.now)) ≡ Err fault) }
+    ensures below { IfOk result (λ at. at < length (V.tasks view.now)) }
+    ensures kind { IfOk result (λ at. (placed_task_at (V.tasks view.now) at).task.kind ≡ Hll) }
 {
     let Some(at) = find_task(view, name) else {
         return Err(ReadFault::Unknown);

@@ -6,7 +6,7 @@ ghost use Rattle.addr_translate.specs.Blocks.{index_of};
 ghost use Rattle.hash_units.specs.Toeplitz.{row_hash_of};
 ghost use Rattle.sketch_defs.specs.Answers.{cells_found};
 ghost use Rattle.readout.specs.declared.views.Side.TheVariants.{Live};
-ghost use Rattle.readout.specs.Standings.{standing_at, place_at, live_bits, IsFit, IsShaped, row_told, rows_told};
+ghost use Rattle.readout.specs.PlacedTasks.{placed_task_at, place_at, live_bits, IsFit, IsShaped, row_contents, rows_contents};
 ghost use Rattle.readout.specs.Judging.{answers_keys, line_of_query};
 ghost use Rattle.readout.specs.Stops.{IsDeviceOf, IsStopOf};
 
@@ -37,18 +37,18 @@ fn found_cell<V: TaskView, R: RegFile>(
     row: u32,
     h: u32,
 ) -> Result<u32, ReadFault>
-    requires fit { IsFit (V.plan view.now) (V.standings view.now) }
-    requires shaped { IsShaped (V.plan view.now) (R.dims regs.old) }
-    requires task { task < length (V.standings view.now) }
-    requires row { row < length (standing_at (V.standings view.now) task).places }
+    requires fit { IsFit (V.geometry view.now) (V.tasks view.now) }
+    requires shaped { IsShaped (V.geometry view.now) (R.dims regs.old) }
+    requires task { task < length (V.tasks view.now) }
+    requires row { row < length (placed_task_at (V.tasks view.now) task).places }
     requires few { row < 4 }
     ensures later { R.faults regs.old ≤ R.faults regs.new }
     ensures cause { IfErr result (IsDeviceOf (R.faults regs.old) (R.faults regs.new)) }
     ensures dims { R.dims regs.new ≡ R.dims regs.old }
-    ensures cells { Stays (R.cells regs.old) (R.cells regs.new) }
+    ensures contents { Stays (R.contents regs.old) (R.contents regs.new) }
     ensures calls { Stays (R.calls regs.old) (R.calls regs.new) }
-    ensures value { IfOk result (λ value. IfSome (R.cells regs.new) (λ told.
-        value ≡ slice_index (row_told told Live (place_at (standing_at (V.standings view.now) task) row)) (index_of (row_hash_of h row) (live_bits (standing_at (V.standings view.now) task))))) }
+    ensures value { IfOk result (λ value. IfSome (R.contents regs.new) (λ told.
+        value ≡ slice_index (row_contents told Live (place_at (placed_task_at (V.tasks view.now) task) row)) (index_of (row_hash_of h row) (live_bits (placed_task_at (V.tasks view.now) task))))) }
 {
     let bits = bits_of(view.placed(task, row).region);
     match view.cell(regs, task, Side::Live, row, index(row_hash(h, row), bits)) {
@@ -65,19 +65,19 @@ fn found_cells<V: TaskView, R: RegFile>(
     rows: u32,
     h: u32,
 ) -> Result<Found, ReadFault>
-    requires fit { IsFit (V.plan view.now) (V.standings view.now) }
-    requires shaped { IsShaped (V.plan view.now) (R.dims regs.old) }
-    requires task { task < length (V.standings view.now) }
-    requires rows { rows ≡ length (standing_at (V.standings view.now) task).places }
+    requires fit { IsFit (V.geometry view.now) (V.tasks view.now) }
+    requires shaped { IsShaped (V.geometry view.now) (R.dims regs.old) }
+    requires task { task < length (V.tasks view.now) }
+    requires rows { rows ≡ length (placed_task_at (V.tasks view.now) task).places }
     requires few { rows ≤ 4 }
     ensures later { R.faults regs.old ≤ R.faults regs.new }
     ensures cause { IfErr result (IsDeviceOf (R.faults regs.old) (R.faults regs.new)) }
     ensures dims { R.dims regs.new ≡ R.dims regs.old }
-    ensures cells { Stays (R.cells regs.old) (R.cells regs.new) }
+    ensures contents { Stays (R.contents regs.old) (R.contents regs.new) }
     ensures calls { Stays (R.calls regs.old) (R.calls regs.new) }
     ensures count { IfOk result (λ found. length found.items ≡ rows) }
-    ensures found { IfOk result (λ found. IfSome (R.cells regs.new) (λ told.
-        found.items ≡ cells_found h (live_bits (standing_at (V.standings view.now) task)) (rows_told told Live (standing_at (V.standings view.now) task)))) }
+    ensures found { IfOk result (λ found. IfSome (R.contents regs.new) (λ told.
+        found.items ≡ cells_found h (live_bits (placed_task_at (V.tasks view.now) task)) (rows_contents told Live (placed_task_at (V.tasks view.now) task)))) }
 {
     let mut found = Found::new();
     'rows: for row in 0..rows {
@@ -90,32 +90,32 @@ fn found_cells<V: TaskView, R: RegFile>(
 }
 
 /// Sends what the task answers for the key value.
-#[tactic(auto, using(crate::proofs::StandingLemmas::rows_placed, crate::proofs::QueryLemmas::keys_no_counters, crate::proofs::QueryLemmas::keys_no_ranks))]
+#[tactic(auto, using(crate::proofs::PlacedTaskLemmas::rows_placed, crate::proofs::QueryLemmas::keys_no_counters, crate::proofs::QueryLemmas::keys_no_ranks))]
 pub(crate) fn send_query<V: TaskView, R: RegFile, S: Sink>(
     view: &V,
     regs: &mut R,
-    key: &HashKey,
+    hash_key: &HashKey,
     number: usize,
     at: &Filter,
     sink: &mut S,
 ) -> Result<(), ReadFault>
-    requires fit { IsFit (V.plan view.now) (V.standings view.now) }
-    requires shaped { IsShaped (V.plan view.now) (R.dims regs.old) }
-    requires task { number < length (V.standings view.now) }
-    requires kind { answers_keys (standing_at (V.standings view.now) number).task.kind ≡ true }
+    requires fit { IsFit (V.geometry view.now) (V.tasks view.now) }
+    requires shaped { IsShaped (V.geometry view.now) (R.dims regs.old) }
+    requires task { number < length (V.tasks view.now) }
+    requires kind { answers_keys (placed_task_at (V.tasks view.now) number).task.kind ≡ true }
     ensures later { S.faults sink.old ≤ S.faults sink.new }
     ensures regs_later { R.faults regs.old ≤ R.faults regs.new }
     ensures cause { IfErr result (IsStopOf (R.faults regs.old) (R.faults regs.new) (S.faults sink.old) (S.faults sink.new)) }
     ensures dims { R.dims regs.new ≡ R.dims regs.old }
-    ensures cells { Stays (R.cells regs.old) (R.cells regs.new) }
+    ensures contents { Stays (R.contents regs.old) (R.contents regs.new) }
     ensures calls { Stays (R.calls regs.old) (R.calls regs.new) }
-    ensures sent { let standing = standing_at (V.standings view.now) number in OnOk result (IfSome (R.cells regs.new) (λ told. Grows (S.sent sink.old)
-        (line_of_query key.now (live_bits standing) at.now standing.task (rows_told told Live standing)) (S.sent sink.new))) }
-    ensures part { let standing = standing_at (V.standings view.now) number in OnErr result (IfSome (R.cells regs.new) (λ told. CameInPart (S.sent sink.old)
-        (line_of_query key.now (live_bits standing) at.now standing.task (rows_told told Live standing)) (S.sent sink.new))) }
+    ensures sent { let placed = placed_task_at (V.tasks view.now) number in OnOk result (IfSome (R.contents regs.new) (λ told. Grows (S.sent sink.old)
+        (line_of_query hash_key.now (live_bits placed) at.now placed.task (rows_contents told Live placed)) (S.sent sink.new))) }
+    ensures part { let placed = placed_task_at (V.tasks view.now) number in OnErr result (IfSome (R.contents regs.new) (λ told. CameInPart (S.sent sink.old)
+        (line_of_query hash_key.now (live_bits placed) at.now placed.task (rows_contents told Live placed)) (S.sent sink.new))) }
 {
     let task = view.task(number);
-    let h = hash(key, at.value(), task.key());
+    let h = hash(hash_key, at.value(), task.key());
     match found_cells(view, regs, number, row_count(task), h) {
         Ok(found) => {
             let reply = answer(task.kind(), found.as_slice(), h);

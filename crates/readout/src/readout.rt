@@ -3,7 +3,7 @@ ghost use Rattle.std.specs.Prelude.{◌≡◌, ◌≤◌, IfOk, IfSome, IsErrOf}
 ghost use Rattle.outside.specs.Faults.{Rose};
 ghost use Rattle.outside.specs.Told.{Stays};
 ghost use Rattle.readout.specs.declared.views.Side.TheVariants.{Live};
-ghost use Rattle.readout.specs.Standings.{Standing, found_in, live_bits, IsFit, IsShaped, rows_told};
+ghost use Rattle.readout.specs.PlacedTasks.{PlacedTask, task_named, live_bits, IsFit, IsShaped, rows_contents};
 ghost use Rattle.readout.specs.Judging.{judged_cells, judged_query, judged_dist, judged_card, side_size, lines_of_cells, line_of_query, lines_of_dist, line_of_card, IsJudged, SendsJudged};
 
 use crate::OutOfMemory;
@@ -61,19 +61,19 @@ impl Readout {
         side: Side,
         sink: &mut S,
     ) -> Result<(), ReadFault>
-        requires fit { IsFit (V.plan view.now) (V.standings view.now) }
-        requires shaped { IsShaped (V.plan view.now) (R.dims regs.old) }
-        ensures verdict { IsJudged (judged_cells side (found_in name.now (V.standings view.now))) result }
+        requires fit { IsFit (V.geometry view.now) (V.tasks view.now) }
+        requires shaped { IsShaped (V.geometry view.now) (R.dims regs.old) }
+        ensures verdict { IsJudged (judged_cells side (task_named name.now (V.tasks view.now))) result }
         ensures sent { SendsJudged
-            (λ (standing : Standing) told. lines_of_cells side (side_size side standing) standing.task (rows_told told side standing))
-            (judged_cells side (found_in name.now (V.standings view.now)))
-            (R.cells regs.new) (S.sent sink.old) result (S.sent sink.new) }
+            (λ (placed : PlacedTask) told. lines_of_cells side (side_size side placed) placed.task (rows_contents told side placed))
+            (judged_cells side (task_named name.now (V.tasks view.now)))
+            (R.contents regs.new) (S.sent sink.old) result (S.sent sink.new) }
         ensures device { IsErrOf result ReadFault.Device → Rose (R.faults regs.old) (R.faults regs.new) }
         ensures write { IsErrOf result ReadFault.Write → Rose (S.faults sink.old) (S.faults sink.new) }
         ensures later { S.faults sink.old ≤ S.faults sink.new }
         ensures regs_later { R.faults regs.old ≤ R.faults regs.new }
         ensures dims { R.dims regs.new ≡ R.dims regs.old }
-        ensures cells { Stays (R.cells regs.old) (R.cells regs.new) }
+        ensures contents { Stays (R.contents regs.old) (R.contents regs.new) }
         ensures calls { Stays (R.calls regs.old) (R.calls regs.new) }
     {
         match judge_cells(view, name, side) {
@@ -88,28 +88,28 @@ impl Readout {
         &self,
         view: &V,
         regs: &mut R,
-        key: &HashKey,
+        hash_key: &HashKey,
         name: &Name,
         at: &Filter,
         sink: &mut S,
     ) -> Result<(), ReadFault>
-        requires fit { IsFit (V.plan view.now) (V.standings view.now) }
-        requires shaped { IsShaped (V.plan view.now) (R.dims regs.old) }
-        ensures verdict { IsJudged (judged_query at.now (found_in name.now (V.standings view.now))) result }
+        requires fit { IsFit (V.geometry view.now) (V.tasks view.now) }
+        requires shaped { IsShaped (V.geometry view.now) (R.dims regs.old) }
+        ensures verdict { IsJudged (judged_query at.now (task_named name.now (V.tasks view.now))) result }
         ensures sent { SendsJudged
-            (λ (standing : Standing) told. line_of_query key.now (live_bits standing) at.now standing.task (rows_told told Live standing))
-            (judged_query at.now (found_in name.now (V.standings view.now)))
-            (R.cells regs.new) (S.sent sink.old) result (S.sent sink.new) }
+            (λ (placed : PlacedTask) told. line_of_query hash_key.now (live_bits placed) at.now placed.task (rows_contents told Live placed))
+            (judged_query at.now (task_named name.now (V.tasks view.now)))
+            (R.contents regs.new) (S.sent sink.old) result (S.sent sink.new) }
         ensures device { IsErrOf result ReadFault.Device → Rose (R.faults regs.old) (R.faults regs.new) }
         ensures write { IsErrOf result ReadFault.Write → Rose (S.faults sink.old) (S.faults sink.new) }
         ensures later { S.faults sink.old ≤ S.faults sink.new }
         ensures regs_later { R.faults regs.old ≤ R.faults regs.new }
         ensures dims { R.dims regs.new ≡ R.dims regs.old }
-        ensures cells { Stays (R.cells regs.old) (R.cells regs.new) }
+        ensures contents { Stays (R.contents regs.old) (R.contents regs.new) }
         ensures calls { Stays (R.calls regs.old) (R.calls regs.new) }
     {
         match judge_query(view, name, at) {
-            Ok(number) => send_query(view, regs, key, number, at, sink),
+            Ok(number) => send_query(view, regs, hash_key, number, at, sink),
             Err(fault) => Err(fault),
         }
     }
@@ -122,19 +122,19 @@ impl Readout {
         name: &Name,
         sink: &mut S,
     ) -> Result<(), ReadFault>
-        requires fit { IsFit (V.plan view.now) (V.standings view.now) }
-        requires shaped { IsShaped (V.plan view.now) (R.dims regs.old) }
-        ensures verdict { IsJudged (judged_card (found_in name.now (V.standings view.now))) result }
+        requires fit { IsFit (V.geometry view.now) (V.tasks view.now) }
+        requires shaped { IsShaped (V.geometry view.now) (R.dims regs.old) }
+        ensures verdict { IsJudged (judged_card (task_named name.now (V.tasks view.now))) result }
         ensures sent { SendsJudged
-            (λ (standing : Standing) told. line_of_card (live_bits standing) standing.task (rows_told told Live standing))
-            (judged_card (found_in name.now (V.standings view.now)))
-            (R.cells regs.new) (S.sent sink.old) result (S.sent sink.new) }
+            (λ (placed : PlacedTask) told. line_of_card (live_bits placed) placed.task (rows_contents told Live placed))
+            (judged_card (task_named name.now (V.tasks view.now)))
+            (R.contents regs.new) (S.sent sink.old) result (S.sent sink.new) }
         ensures device { IsErrOf result ReadFault.Device → Rose (R.faults regs.old) (R.faults regs.new) }
         ensures write { IsErrOf result ReadFault.Write → Rose (S.faults sink.old) (S.faults sink.new) }
         ensures later { S.faults sink.old ≤ S.faults sink.new }
         ensures regs_later { R.faults regs.old ≤ R.faults regs.new }
         ensures dims { R.dims regs.new ≡ R.dims regs.old }
-        ensures cells { Stays (R.cells regs.old) (R.cells regs.new) }
+        ensures contents { Stays (R.contents regs.old) (R.contents regs.new) }
         ensures calls { Stays (R.calls regs.old) (R.calls regs.new) }
     {
         match judge_card(view, name) {
@@ -152,20 +152,20 @@ impl Readout {
         name: &Name,
         sink: &mut S,
     ) -> Result<(), ReadFault>
-        requires fit { IsFit (V.plan view.now) (V.standings view.now) }
-        requires shaped { IsShaped (V.plan view.now) (R.dims regs.old) }
-        requires room { IfSome (found_in name.now (V.standings view.now)) (λ standing. live_bits standing ≤ self.old) }
-        ensures verdict { IsJudged (judged_dist (found_in name.now (V.standings view.now))) result }
+        requires fit { IsFit (V.geometry view.now) (V.tasks view.now) }
+        requires shaped { IsShaped (V.geometry view.now) (R.dims regs.old) }
+        requires room { IfSome (task_named name.now (V.tasks view.now)) (λ placed. live_bits placed ≤ self.old) }
+        ensures verdict { IsJudged (judged_dist (task_named name.now (V.tasks view.now))) result }
         ensures sent { SendsJudged
-            (λ (standing : Standing) told. lines_of_dist standing.task (rows_told told Live standing))
-            (judged_dist (found_in name.now (V.standings view.now)))
-            (R.cells regs.new) (S.sent sink.old) result (S.sent sink.new) }
+            (λ (placed : PlacedTask) told. lines_of_dist placed.task (rows_contents told Live placed))
+            (judged_dist (task_named name.now (V.tasks view.now)))
+            (R.contents regs.new) (S.sent sink.old) result (S.sent sink.new) }
         ensures device { IsErrOf result ReadFault.Device → Rose (R.faults regs.old) (R.faults regs.new) }
         ensures write { IsErrOf result ReadFault.Write → Rose (S.faults sink.old) (S.faults sink.new) }
         ensures later { S.faults sink.old ≤ S.faults sink.new }
         ensures regs_later { R.faults regs.old ≤ R.faults regs.new }
         ensures dims { R.dims regs.new ≡ R.dims regs.old }
-        ensures cells { Stays (R.cells regs.old) (R.cells regs.new) }
+        ensures contents { Stays (R.contents regs.old) (R.contents regs.new) }
         ensures calls { Stays (R.calls regs.old) (R.calls regs.new) }
         ensures room { self.new ≡ self.old }
     {

@@ -4,8 +4,8 @@ use Rattle.stateful_ops.specs.declared.ops.Op.{Op}
 use Rattle.stateful_ops.specs.Ops.{new_register, carry_of}
 
 -- the register at each array and address
-abbrev pub Cells : Type 0
-Cells = ℕ → ℕ → ℕ
+abbrev pub Contents : Type 0
+Contents = ℕ → ℕ → ℕ
 
 -- how many arrays, and the bits of an address
 pub record Dims : Type 0 where
@@ -27,18 +27,18 @@ pub record InRange (dims : Dims) (array base len : ℕ) : Type 0 where
   pub in_arrays : array < dims.arrays
   pub in_array : base + len ≤ 2 ^ dims.bits
 
-abbrev pub AreZero : Cells → Type 0
+abbrev pub AreZero : Contents → Type 0
 AreZero regs = (array addr : ℕ) → regs array addr ≡ 0
 
 -- one register changed, to what the operation makes of it, and its carry was answered
-pub record MakesCall (array addr : ℕ) (op : Op) (answer : ℕ) (old new : Cells) : Type 0 where
+pub record MakesCall (array addr : ℕ) (op : Op) (answer : ℕ) (old new : Contents) : Type 0 where
   pub here : new array addr ≡ new_register op (old array addr)
   pub carry : answer ≡ carry_of op (old array addr)
   pub arrays : (a i : ℕ) → a ≢ array → new a i ≡ old a i
   pub others : (i : ℕ) → i ≢ addr → new array i ≡ old array i
 
 -- the registers of the range hold the value, unless the call was refused, and all others stay
-pub record MakesFill {T E : Type 0} (array base len value : ℕ) (result : Result T E) (old new : Cells) : Type 0 where
+pub record MakesFill {T E : Type 0} (array base len value : ℕ) (result : Result T E) (old new : Contents) : Type 0 where
   pub here : OnOk result ((i : ℕ) → base ≤ i → i < base + len → new array i ≡ value)
   pub arrays : (a i : ℕ) → a ≢ array → new a i ≡ old a i
   pub below : (i : ℕ) → i < base → new array i ≡ old array i

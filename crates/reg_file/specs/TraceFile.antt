@@ -1,15 +1,15 @@
 -- What clauses see of a `TraceFile` besides its registers.
 use Rattle.reg_file.specs.declared.trace.TraceFile.{TraceFile}
-use Rattle.reg_file.specs.Registers.{Cells, Dims}
-use Rattle.reg_file.specs.RamFile.{ram_dims, ram_cells}
+use Rattle.reg_file.specs.Registers.{Contents, Dims}
+use Rattle.reg_file.specs.RamFile.{ram_dims, ram_contents}
 use Rattle.reg_file.specs.Log.{Log}
 use Rattle.reg_file.specs.Schedule.{Schedule}
 
 abbrev pub trace_dims : TraceFile → Dims
 trace_dims file = ram_dims file.file
 
-abbrev pub trace_cells : TraceFile → Cells
-trace_cells file = ram_cells file.file
+abbrev pub trace_contents : TraceFile → Contents
+trace_contents file = ram_contents file.file
 
 -- its calls of `rmw`
 abbrev pub log_of : TraceFile → Log

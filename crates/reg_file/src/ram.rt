@@ -19,13 +19,13 @@ pub struct RamFile {
 
 impl RamFile {
     ghost use Rattle.reg_file.specs.Registers.{AreZero};
-    ghost use Rattle.reg_file.specs.RamFile.{ram_dims, ram_cells};
+    ghost use Rattle.reg_file.specs.RamFile.{ram_dims, ram_contents};
 
     /// A file with no arrays, which holds no memory.
     pub fn new() -> RamFile
         ensures faults { ⟦<RamFile as RegFile>⟧.faults result ≡ 0 }
         ensures arrays { (⟦<RamFile as RegFile>⟧.dims result).arrays ≡ 0 }
-        ensures cells { IsSomeAnd (⟦<RamFile as RegFile>⟧.cells result) AreZero }
+        ensures contents { IsSomeAnd (⟦<RamFile as RegFile>⟧.contents result) AreZero }
         ensures calls { ⟦<RamFile as RegFile>⟧.calls result ≡ None }
     {
         RamFile::without_arrays(0)
@@ -35,7 +35,7 @@ impl RamFile {
     pub(crate) fn without_arrays(bits: u32) -> RamFile
         requires { bits < 64 }
         ensures dims { ram_dims result ≡ record { arrays = 0; bits = bits } }
-        ensures cells { AreZero (ram_cells result) }
+        ensures contents { AreZero (ram_contents result) }
     {
         RamFile {
             words: None,
@@ -47,13 +47,13 @@ impl RamFile {
 
 impl RegFile for RamFile {
     ghost use Rattle.reg_file.specs.Registers.{shaped_dims, InFile, InRange, AreZero, MakesCall, MakesFill};
-    ghost use Rattle.reg_file.specs.RamFile.{ram_dims, ram_cells};
+    ghost use Rattle.reg_file.specs.RamFile.{ram_dims, ram_contents};
 
     ghost faults = { λ _. 0 };
 
     ghost dims = { ram_dims };
 
-    ghost cells = { λ file. Some (ram_cells file) };
+    ghost contents = { λ file. Some (ram_contents file) };
 
     ghost calls = { λ _. None };
 
@@ -63,7 +63,7 @@ impl RegFile for RamFile {
         requires least_bits { 5 ≤ bits }
         requires most_bits { bits ≤ 16 }
         ensures dims { ram_dims self.new ≡ shaped_dims arrays bits result }
-        ensures cells { AreZero (ram_cells self.new) }
+        ensures contents { AreZero (ram_contents self.new) }
         ensures memory { IsOkUnless result ShapeFail.Memory }
     {
         *self = RamFile::without_arrays(bits);
@@ -81,7 +81,7 @@ impl RegFile for RamFile {
     fn rmw(&mut self, array: u32, addr: u32, op: Op) -> u32
         requires { InFile (ram_dims self.old) array addr }
         ensures dims { ram_dims self.new ≡ ram_dims self.old }
-        ensures cells { MakesCall array addr op result (ram_cells self.old) (ram_cells self.new) }
+        ensures contents { MakesCall array addr op result (ram_contents self.old) (ram_contents self.new) }
     {
         let Some(words) = &mut self.words else {
             unreachable!()
@@ -92,8 +92,8 @@ impl RegFile for RamFile {
     fn read(&mut self, array: u32, addr: u32) -> Result<u32, DeviceFault>
         requires { InFile (ram_dims self.old) array addr }
         ensures dims { ram_dims self.new ≡ ram_dims self.old }
-        ensures cells { ram_cells self.new ≡ ram_cells self.old }
-        ensures value { result ≡ Ok (ram_cells self.new array addr) }
+        ensures contents { ram_contents self.new ≡ ram_contents self.old }
+        ensures value { result ≡ Ok (ram_contents self.new array addr) }
     {
         let Some(words) = &self.words else {
             unreachable!()
@@ -105,8 +105,8 @@ impl RegFile for RamFile {
         requires { InRange (ram_dims self.old) array base len }
         ensures ok { IsOk result }
         ensures dims { ram_dims self.new ≡ ram_dims self.old }
-        ensures cells { MakesFill array base len value result
-            (ram_cells self.old) (ram_cells self.new) }
+        ensures contents { MakesFill array base len value result
+            (ram_contents self.old) (ram_contents self.new) }
     {
         let Some(words) = &mut self.words else {
             unreachable!()

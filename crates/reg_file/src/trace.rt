@@ -32,8 +32,8 @@ impl TraceFile {
     pub fn new(alloc: Global, room: usize, failing: Vec<u64>) -> Result<TraceFile, OutOfMemory>
         ensures faults { IfOk result (λ file. ⟦<TraceFile as RegFile>⟧.faults file ≡ 0) }
         ensures arrays { IfOk result (λ file. (⟦<TraceFile as RegFile>⟧.dims file).arrays ≡ 0) }
-        ensures cells { IfOk result (λ file.
-            IsSomeAnd (⟦<TraceFile as RegFile>⟧.cells file) AreZero) }
+        ensures contents { IfOk result (λ file.
+            IsSomeAnd (⟦<TraceFile as RegFile>⟧.contents file) AreZero) }
         ensures calls { IfOk result (λ file. ⟦<TraceFile as RegFile>⟧.calls file ≡ Some []) }
         ensures log { IfOk result (λ file. log_of file ≡ first_log room) }
         ensures schedule { IfOk result (λ file. schedule_of file ≡ first_schedule failing.items) }
@@ -58,13 +58,13 @@ impl TraceFile {
 
 impl RegFile for TraceFile {
     ghost use Rattle.reg_file.specs.Registers.{shaped_dims, InFile, InRange, AreZero, MakesCall, MakesFill};
-    ghost use Rattle.reg_file.specs.TraceFile.{trace_dims, trace_cells, log_of, schedule_of};
+    ghost use Rattle.reg_file.specs.TraceFile.{trace_dims, trace_contents, log_of, schedule_of};
 
     ghost faults = { λ file. (schedule_of file).faults };
 
     ghost dims = { trace_dims };
 
-    ghost cells = { λ file. Some (trace_cells file) };
+    ghost contents = { λ file. Some (trace_contents file) };
 
     ghost calls = { λ file. told_calls (log_of file) };
 
@@ -75,7 +75,7 @@ impl RegFile for TraceFile {
         requires most_bits { bits ≤ 16 }
         ensures later { (schedule_of self.old).faults ≤ (schedule_of self.new).faults }
         ensures dims { trace_dims self.new ≡ shaped_dims arrays bits result }
-        ensures cells { AreZero (trace_cells self.new) }
+        ensures contents { AreZero (trace_contents self.new) }
         ensures log { log_of self.new ≡ log_shaped (log_of self.old) }
         ensures schedule { schedule_of self.new ≡ schedule_after (schedule_of self.old) }
         ensures fails { IsErrOf result ShapeFail.Device
@@ -92,8 +92,8 @@ impl RegFile for TraceFile {
     fn rmw(&mut self, array: u32, addr: u32, op: Op) -> u32
         requires { InFile (trace_dims self.old) array addr }
         ensures dims { trace_dims self.new ≡ trace_dims self.old }
-        ensures cells { MakesCall array addr op result
-            (trace_cells self.old) (trace_cells self.new) }
+        ensures contents { MakesCall array addr op result
+            (trace_contents self.old) (trace_contents self.new) }
         ensures calls { let call : Call = record { array = array; addr = addr; op = op } in
             Grows (told_calls (log_of self.old)) (call ∷ []) (told_calls (log_of self.new)) }
         ensures log { let call : Call = record { array = array; addr = addr; op = op } in
@@ -108,8 +108,8 @@ impl RegFile for TraceFile {
         requires { InFile (trace_dims self.old) array addr }
         ensures later { (schedule_of self.old).faults ≤ (schedule_of self.new).faults }
         ensures dims { trace_dims self.new ≡ trace_dims self.old }
-        ensures cells { trace_cells self.new ≡ trace_cells self.old }
-        ensures value { IfOk result (λ value. value ≡ trace_cells self.new array addr) }
+        ensures contents { trace_contents self.new ≡ trace_contents self.old }
+        ensures value { IfOk result (λ value. value ≡ trace_contents self.new array addr) }
         ensures log { log_of self.new ≡ log_of self.old }
         ensures schedule { schedule_of self.new ≡ schedule_after (schedule_of self.old) }
         ensures fails { IsErr result ↔ IsTrue (fails_next (schedule_of self.old)) }
@@ -124,8 +124,8 @@ impl RegFile for TraceFile {
         requires { InRange (trace_dims self.old) array base len }
         ensures later { (schedule_of self.old).faults ≤ (schedule_of self.new).faults }
         ensures dims { trace_dims self.new ≡ trace_dims self.old }
-        ensures cells { MakesFill array base len value result
-            (trace_cells self.old) (trace_cells self.new) }
+        ensures contents { MakesFill array base len value result
+            (trace_contents self.old) (trace_contents self.new) }
         ensures log { log_of self.new ≡ log_of self.old }
         ensures schedule { schedule_of self.new ≡ schedule_after (schedule_of self.old) }
         ensures fails { IsErr result ↔ IsTrue (fails_next (schedule_of self.old)) }

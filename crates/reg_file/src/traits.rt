@@ -3,7 +3,7 @@ ghost use Rattle.std.specs.Prelude.{◌≡◌, ℕ, ◌≤◌, [], ◌∷◌, Li
 ghost use Rattle.outside.specs.Faults.{Rose, HasCause};
 ghost use Rattle.outside.specs.Told.{Told, Stays, Grows};
 ghost use Rattle.reg_file.specs.declared.traits.Call.{Call};
-ghost use Rattle.reg_file.specs.Registers.{Cells, Dims, shaped_dims, InFile, InRange, AreZero, MakesCall, MakesFill};
+ghost use Rattle.reg_file.specs.Registers.{Contents, Dims, shaped_dims, InFile, InRange, AreZero, MakesCall, MakesFill};
 
 use stateful_ops::Op;
 use std::alloc::Global;
@@ -33,7 +33,7 @@ pub trait RegFile {
 
     ghost dims: { Self → Dims };
 
-    ghost cells: { Self → Option Cells };
+    ghost contents: { Self → Option Contents };
 
     ghost calls: { Self → Option (List Call) };
 
@@ -46,7 +46,7 @@ pub trait RegFile {
         ensures later { faults self.old ≤ faults self.new }
         ensures device { IsErrOf result ShapeFail.Device → Rose (faults self.old) (faults self.new) }
         ensures dims { dims self.new ≡ shaped_dims arrays bits result }
-        ensures cells { OnOk result (IfSome (cells self.new) AreZero) }
+        ensures contents { OnOk result (IfSome (contents self.new) AreZero) }
         ensures calls { Told (λ _ now. now ≡ []) (calls self.old) (calls self.new) };
 
     /// Makes the operation on the register, and answers its carry.
@@ -54,7 +54,7 @@ pub trait RegFile {
         requires { InFile (dims self.old) array addr }
         ensures faults { faults self.new ≡ faults self.old }
         ensures dims { dims self.new ≡ dims self.old }
-        ensures cells { Told (MakesCall array addr op result) (cells self.old) (cells self.new) }
+        ensures contents { Told (MakesCall array addr op result) (contents self.old) (contents self.new) }
         ensures calls { let call : Call = record { array = array; addr = addr; op = op } in
             Grows (calls self.old) (call ∷ []) (calls self.new) };
 
@@ -62,8 +62,8 @@ pub trait RegFile {
         requires { InFile (dims self.old) array addr }
         ensures cause { HasCause (faults self.old) (faults self.new) result }
         ensures dims { dims self.new ≡ dims self.old }
-        ensures cells { Stays (cells self.old) (cells self.new) }
-        ensures value { IfOk result (λ value. IfSome (cells self.new) (λ regs. value ≡ regs array addr)) }
+        ensures contents { Stays (contents self.old) (contents self.new) }
+        ensures value { IfOk result (λ value. IfSome (contents self.new) (λ regs. value ≡ regs array addr)) }
         ensures calls { Stays (calls self.old) (calls self.new) };
 
     /// Puts `value` into the `len` registers from `base`. Refused, they may hold anything.
@@ -71,6 +71,6 @@ pub trait RegFile {
         requires { InRange (dims self.old) array base len }
         ensures cause { HasCause (faults self.old) (faults self.new) result }
         ensures dims { dims self.new ≡ dims self.old }
-        ensures cells { Told (MakesFill array base len value result) (cells self.old) (cells self.new) }
+        ensures contents { Told (MakesFill array base len value result) (contents self.old) (contents self.new) }
         ensures calls { Stays (calls self.old) (calls self.new) };
 }

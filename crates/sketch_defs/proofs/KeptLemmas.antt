@@ -12,39 +12,39 @@ use Rattle.key_mask.specs.Masks.{mask_bytes_of}
 use Rattle.pkt_headers.specs.declared.packets.Packet.{Packet}
 use Rattle.addr_translate.specs.Blocks.{index_of}
 use Rattle.hash_units.specs.Toeplitz.{hash_of, row_hash_of}
-use Rattle.sketch_defs.specs.Cells.{key_hash, row_hash_at, place_at}
+use Rattle.sketch_defs.specs.Cells.{key_hash, row_hash_at, index_at}
 use Rattle.sketch_defs.specs.Tasks.{Sketch}
 use Rattle.sketch_defs.proofs.FoundLemmas.{IsWithin}
 
 -- ---- a packet of the key value
 
-pub same_hash : (key : List ℕ) (sketch : Sketch) (vector other : List ℕ)
+pub same_hash : (hash_key : List ℕ) (sketch : Sketch) (vector other : List ℕ)
     → bytes_eq (and_bytes other (mask_bytes_of sketch.key)) (and_bytes vector (mask_bytes_of sketch.key)) ≡ true
-    → key_hash key sketch other ≡ key_hash key sketch vector
+    → key_hash hash_key sketch other ≡ key_hash hash_key sketch vector
 unfolding key_hash
-same_hash key sketch vector other same =
-    ap (hash_of key)
+same_hash hash_key sketch vector other same =
+    ap (hash_of hash_key)
     ((bytes_eq-Decides (and_bytes other (mask_bytes_of sketch.key)) (and_bytes vector (mask_bytes_of sketch.key))).0 same)
 
-pub same_row_hash : (key : List ℕ) (sketch : Sketch) (vector : List ℕ) (row : ℕ) (packet : Packet)
+pub same_row_hash : (hash_key : List ℕ) (sketch : Sketch) (vector : List ℕ) (row : ℕ) (packet : Packet)
     → bytes_eq (and_bytes packet.vec (mask_bytes_of sketch.key)) (and_bytes vector (mask_bytes_of sketch.key)) ≡ true
-    → row_hash_at key sketch row packet ≡ row_hash_of (key_hash key sketch vector) row
+    → row_hash_at hash_key sketch row packet ≡ row_hash_of (key_hash hash_key sketch vector) row
 unfolding row_hash_at
-same_row_hash key sketch vector row packet same = ap (λ h. row_hash_of h row) (same_hash key sketch vector packet.vec same)
+same_row_hash hash_key sketch vector row packet same = ap (λ h. row_hash_of h row) (same_hash hash_key sketch vector packet.vec same)
 
-pub same_place : (key : List ℕ) (sketch : Sketch) (bits : ℕ) (vector : List ℕ) (row : ℕ) (packet : Packet)
+pub same_place : (hash_key : List ℕ) (sketch : Sketch) (bits : ℕ) (vector : List ℕ) (row : ℕ) (packet : Packet)
     → bytes_eq (and_bytes packet.vec (mask_bytes_of sketch.key)) (and_bytes vector (mask_bytes_of sketch.key)) ≡ true
-    → place_at key sketch bits row packet ≡ index_of (row_hash_of (key_hash key sketch vector) row) bits
-unfolding place_at
-same_place key sketch bits vector row packet same = ap (λ h. index_of h bits) (same_row_hash key sketch vector row packet same)
+    → index_at hash_key sketch bits row packet ≡ index_of (row_hash_of (key_hash hash_key sketch vector) row) bits
+unfolding index_at
+same_place hash_key sketch bits vector row packet same = ap (λ h. index_of h bits) (same_row_hash hash_key sketch vector row packet same)
 
 -- it comes to the cell of its row
-pub comes_there : (key : List ℕ) (sketch : Sketch) (bits : ℕ) (vector : List ℕ) (row : ℕ) (packet : Packet)
+pub comes_there : (hash_key : List ℕ) (sketch : Sketch) (bits : ℕ) (vector : List ℕ) (row : ℕ) (packet : Packet)
     → bytes_eq (and_bytes packet.vec (mask_bytes_of sketch.key)) (and_bytes vector (mask_bytes_of sketch.key)) ≡ true
-    → (place_at key sketch bits row packet == index_of (row_hash_of (key_hash key sketch vector) row) bits) ≡ true
-comes_there key sketch bits vector row packet same =
-    eq-eqb (place_at key sketch bits row packet) (index_of (row_hash_of (key_hash key sketch vector) row) bits)
-    (same_place key sketch bits vector row packet same)
+    → (index_at hash_key sketch bits row packet == index_of (row_hash_of (key_hash hash_key sketch vector) row) bits) ≡ true
+comes_there hash_key sketch bits vector row packet same =
+    eq-eqb (index_at hash_key sketch bits row packet) (index_of (row_hash_of (key_hash hash_key sketch vector) row) bits)
+    (same_place hash_key sketch bits vector row packet same)
 
 -- ---- what two tests keep, where the second keeps what the first does
 

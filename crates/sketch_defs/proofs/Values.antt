@@ -14,7 +14,7 @@ use Rattle.sketch_defs.specs.declared.answers.Reply.TheVariants.{Number, Yes, No
 use Rattle.sketch_defs.specs.declared.kinds.Kind.{Kind}
 use Rattle.sketch_defs.specs.declared.kinds.Kind.TheVariants.{Cms, SumaxSum, SumaxMax, Bloom, Hll, FlagAnd}
 use Rattle.sketch_defs.specs.Answers.{cells_found, answer_of, raw_of, alpha_over, alpha_under, sizes_of, z_of}
-use Rattle.sketch_defs.specs.Cells.{key_hash, row_hash_at, place_at, closed_cell, closed_cells, raised, chained_cells, cells_of, row_of}
+use Rattle.sketch_defs.specs.Cells.{key_hash, row_hash_at, index_at, closed_cell, closed_cells, raised, chained_cells, cells_of, row_of}
 use Rattle.sketch_defs.specs.Tasks.{Sketch}
 
 -- a packet from 10.0.0.x port 1024 to port 80 of 192.168.1.1, with the flags of the first packet of a connection
@@ -46,19 +46,19 @@ zeros count = replicate count 0
 
 count_min : cells_of standard_key (task Cms 1 Packets) 5 (packet_from 1 54 ∷ packet_from 1 54 ∷ packet_from 2 54 ∷ packet_from 1 54 ∷ [])
     ≡ (0 ∷ 1 ∷ zeros 16 ++ 3 ∷ zeros 13) ∷ []
-unfolding cells_of closed_cells closed_cell place_at row_hash_at key_hash hash_of window mask_bytes_of
+unfolding cells_of closed_cells closed_cell index_at row_hash_at key_hash hash_of window mask_bytes_of
 count_min = refl
 
 -- a counter stops at its greatest value
 stopped : row_of (cells_of standard_key (task Cms 1 Bytes) 5 (packet_from 1 4294967294 ∷ packet_from 1 5 ∷ packet_from 1 1 ∷ [])) 0
     ≡ zeros 18 ++ 4294967295 ∷ zeros 13
-unfolding cells_of closed_cells closed_cell place_at row_hash_at key_hash hash_of window mask_bytes_of
+unfolding cells_of closed_cells closed_cell index_at row_hash_at key_hash hash_of window mask_bytes_of
 stopped = refl
 
 -- two cells a row: the last packet raises rows 0 and 2 alone
 least_raised : cells_of standard_key (task SumaxSum 3 Packets) 1 (packet_from 3 54 ∷ packet_from 3 54 ∷ packet_from 1 54 ∷ [])
     ≡ (2 ∷ 1 ∷ []) ∷ (0 ∷ 2 ∷ []) ∷ (1 ∷ 2 ∷ []) ∷ []
-unfolding cells_of chained_cells raised place_at row_hash_at key_hash hash_of window mask_bytes_of
+unfolding cells_of chained_cells raised index_at row_hash_at key_hash hash_of window mask_bytes_of
 least_raised = refl
 
 least_raised_answer : answer_of SumaxSum (cells_found 0x919d5c4a 1 ((2 ∷ 1 ∷ []) ∷ (0 ∷ 2 ∷ []) ∷ (1 ∷ 2 ∷ []) ∷ [])) 0x919d5c4a ≡ Number 1
@@ -66,12 +66,12 @@ unfolding answer_of cells_found
 least_raised_answer = refl
 
 greatest : cells_of standard_key (task SumaxMax 1 Bytes) 5 (packet_from 1 54 ∷ []) ≡ (zeros 18 ++ 54 ∷ zeros 13) ∷ []
-unfolding cells_of closed_cells closed_cell place_at row_hash_at key_hash hash_of window mask_bytes_of
+unfolding cells_of closed_cells closed_cell index_at row_hash_at key_hash hash_of window mask_bytes_of
 greatest = refl
 
 bloom : cells_of standard_key (task Bloom 2 Flow) 5 (packet_from 1 54 ∷ [])
     ≡ (zeros 18 ++ 1024 ∷ zeros 13) ∷ (zeros 19 ++ 131072 ∷ zeros 12) ∷ []
-unfolding cells_of closed_cells closed_cell place_at row_hash_at key_hash hash_of window mask_bytes_of
+unfolding cells_of closed_cells closed_cell index_at row_hash_at key_hash hash_of window mask_bytes_of
 bloom = refl
 
 bloom_answers : answer_of Bloom (1024 ∷ 131072 ∷ []) 0x919d5c4a ≡ Yes
@@ -84,11 +84,11 @@ bloom_misses = refl
 
 flags_of_all : cells_of standard_key (task FlagAnd 1 Flags) 5 (with_flags 2 ∷ with_flags 18 ∷ [])
     ≡ (replicate 18 4294967295 ++ 2 ∷ replicate 13 4294967295) ∷ []
-unfolding cells_of closed_cells closed_cell place_at row_hash_at key_hash hash_of window mask_bytes_of
+unfolding cells_of closed_cells closed_cell index_at row_hash_at key_hash hash_of window mask_bytes_of
 flags_of_all = refl
 
 ranks : cells_of standard_key (task Hll 1 Flow) 5 (packet_from 1 54 ∷ []) ≡ (zeros 18 ++ 3 ∷ zeros 13) ∷ []
-unfolding cells_of closed_cells closed_cell place_at row_hash_at key_hash hash_of window mask_bytes_of rho_of count_leading_zeros
+unfolding cells_of closed_cells closed_cell index_at row_hash_at key_hash hash_of window mask_bytes_of rho_of count_leading_zeros
 ranks = refl
 
 none_of_32 : raw_of 5 (z_of (zeros 32)) ≡ 22

@@ -1,4 +1,4 @@
--- The cells of a task: what its registers hold, by the packets that came to each. `key` is the hash key, and `bits` says how
+-- The cells of a task: what its registers hold, by the packets that came to each. `hash_key` is the hash key, and `bits` says how
 -- many cells a row has, apart from the task's own size, so that a partition that was frozen at another size uses the same words.
 use Rattle.std.specs.Prelude.{ℕ, ◌+◌, ◌^◌, ◌==◌, zero, suc, min, max, nat_lt, if◌then◌else◌, List, [], ◌∷◌, map, replicate, slice_index, slice_index_or, slice_set, bit_and, bit_or}
 use Rattle.std.specs.List.{filter, fold, sum, range_with_len}
@@ -18,30 +18,30 @@ cell_max = 4294967295
 
 -- the hash of a vector under the task's key
 unfoldable pub key_hash : List ℕ → Sketch → List ℕ → ℕ
-key_hash key sketch vector = hash_of key (and_bytes vector (mask_bytes_of sketch.key))
+key_hash hash_key sketch vector = hash_of hash_key (and_bytes vector (mask_bytes_of sketch.key))
 
 -- the hash that a row uses for a packet
 unfoldable pub row_hash_at : List ℕ → Sketch → ℕ → Packet → ℕ
-row_hash_at key sketch row packet = row_hash_of (key_hash key sketch packet.vec) row
+row_hash_at hash_key sketch row packet = row_hash_of (key_hash hash_key sketch packet.vec) row
 
 -- the index of the cell of a row that a packet comes to
-unfoldable pub place_at : List ℕ → Sketch → ℕ → ℕ → Packet → ℕ
-place_at key sketch bits row packet = index_of (row_hash_at key sketch row packet) bits
+unfoldable pub index_at : List ℕ → Sketch → ℕ → ℕ → Packet → ℕ
+index_at hash_key sketch bits row packet = index_of (row_hash_at hash_key sketch row packet) bits
 
 -- what a packet brings to its cell
 abbrev pub brought_by : Kind → List ℕ → Sketch → ℕ → ℕ → Packet → ℕ
-brought_by Cms key sketch bits row packet = weight_of packet sketch.attr
-brought_by SumaxSum key sketch bits row packet = weight_of packet sketch.attr
-brought_by SumaxMax key sketch bits row packet = weight_of packet sketch.attr
-brought_by Bloom key sketch bits row packet = 2 ^ bit_of (row_hash_at key sketch row packet)
-brought_by Mrac key sketch bits row packet = weight_of packet sketch.attr
-brought_by Hll key sketch bits row packet = rho_of (row_hash_at key sketch row packet) bits
-brought_by FlagOr key sketch bits row packet = weight_of packet sketch.attr
-brought_by FlagAnd key sketch bits row packet = weight_of packet sketch.attr
+brought_by Cms hash_key sketch bits row packet = weight_of packet sketch.attr
+brought_by SumaxSum hash_key sketch bits row packet = weight_of packet sketch.attr
+brought_by SumaxMax hash_key sketch bits row packet = weight_of packet sketch.attr
+brought_by Bloom hash_key sketch bits row packet = 2 ^ bit_of (row_hash_at hash_key sketch row packet)
+brought_by Mrac hash_key sketch bits row packet = weight_of packet sketch.attr
+brought_by Hll hash_key sketch bits row packet = rho_of (row_hash_at hash_key sketch row packet) bits
+brought_by FlagOr hash_key sketch bits row packet = weight_of packet sketch.attr
+brought_by FlagAnd hash_key sketch bits row packet = weight_of packet sketch.attr
 
 -- the packets that come to a cell of a row
 abbrev pub packets_at : List ℕ → Sketch → ℕ → List Packet → ℕ → ℕ → List Packet
-packets_at key sketch bits packets row index = filter (λ packet. place_at key sketch bits row packet == index) packets
+packets_at hash_key sketch bits packets row index = filter (λ packet. index_at hash_key sketch bits row packet == index) packets
 
 -- what a cell makes of all that its packets brought
 abbrev pub gathered : Kind → List ℕ → ℕ
@@ -56,12 +56,12 @@ gathered FlagAnd brought = fold bit_and cell_max brought
 
 -- a cell of a kind whose rows know nothing of one another
 unfoldable pub closed_cell : List ℕ → Sketch → ℕ → List Packet → ℕ → ℕ → ℕ
-closed_cell key sketch bits packets row index =
-    gathered sketch.kind (map (brought_by sketch.kind key sketch bits row) (packets_at key sketch bits packets row index))
+closed_cell hash_key sketch bits packets row index =
+    gathered sketch.kind (map (brought_by sketch.kind hash_key sketch bits row) (packets_at hash_key sketch bits packets row index))
 
 unfoldable pub closed_cells : List ℕ → Sketch → ℕ → List Packet → List (List ℕ)
-closed_cells key sketch bits packets =
-    map (λ row. map (closed_cell key sketch bits packets row) (range_with_len 0 (2 ^ bits))) (range_with_len 0 sketch.rows)
+closed_cells hash_key sketch bits packets =
+    map (λ row. map (closed_cell hash_key sketch bits packets row) (range_with_len 0 (2 ^ bits))) (range_with_len 0 sketch.rows)
 
 -- SuMax-Sum: a cell below the bound of a packet is raised by the weight and is the bound of the next row; any other cell,
 -- and the bound, stay
@@ -73,44 +73,44 @@ next_bound weight bound cell = if nat_lt cell bound then min (cell + weight) cel
 
 -- the rows from this one on after a packet that comes to them with this bound
 abbrev pub raised_rows : List ℕ → Sketch → ℕ → Packet → ℕ → ℕ → List (List ℕ) → List (List ℕ)
-raised_rows key sketch bits packet bound row [] = []
-raised_rows key sketch bits packet bound row (cells ∷ rows) =
-    let place = place_at key sketch bits row packet in
+raised_rows hash_key sketch bits packet bound row [] = []
+raised_rows hash_key sketch bits packet bound row (cells ∷ rows) =
+    let place = index_at hash_key sketch bits row packet in
     let weight = weight_of packet sketch.attr in
     let cell = slice_index cells place in
-    slice_set cells place (raised_cell weight bound cell) ∷ raised_rows key sketch bits packet (next_bound weight bound cell) (row + 1) rows
+    slice_set cells place (raised_cell weight bound cell) ∷ raised_rows hash_key sketch bits packet (next_bound weight bound cell) (row + 1) rows
 
 unfoldable pub raised : List ℕ → Sketch → ℕ → List (List ℕ) → Packet → List (List ℕ)
-raised key sketch bits rows packet = raised_rows key sketch bits packet cell_max 0 rows
+raised hash_key sketch bits rows packet = raised_rows hash_key sketch bits packet cell_max 0 rows
 
 unfoldable pub chained_cells : List ℕ → Sketch → ℕ → List Packet → List (List ℕ)
-chained_cells key sketch bits packets = fold (raised key sketch bits) (replicate sketch.rows (replicate (2 ^ bits) 0)) packets
+chained_cells hash_key sketch bits packets = fold (raised hash_key sketch bits) (replicate sketch.rows (replicate (2 ^ bits) 0)) packets
 
 -- the bound as the i-th of these rows finds it
 abbrev pub bound_in : List ℕ → Sketch → ℕ → Packet → ℕ → ℕ → List (List ℕ) → ℕ → ℕ
-bound_in key sketch bits packet bound row rows zero = bound
-bound_in key sketch bits packet bound row [] (suc i) = bound
-bound_in key sketch bits packet bound row (cells ∷ rows) (suc i) =
-    bound_in key sketch bits packet
-    (next_bound (weight_of packet sketch.attr) bound (slice_index cells (place_at key sketch bits row packet))) (row + 1) rows i
+bound_in hash_key sketch bits packet bound row rows zero = bound
+bound_in hash_key sketch bits packet bound row [] (suc i) = bound
+bound_in hash_key sketch bits packet bound row (cells ∷ rows) (suc i) =
+    bound_in hash_key sketch bits packet
+    (next_bound (weight_of packet sketch.attr) bound (slice_index cells (index_at hash_key sketch bits row packet))) (row + 1) rows i
 
 -- the bound of a packet as a row of these cells finds it
 unfoldable pub bound_at : List ℕ → Sketch → ℕ → List (List ℕ) → Packet → ℕ → ℕ
-bound_at key sketch bits cells packet row = bound_in key sketch bits packet cell_max 0 cells row
+bound_at hash_key sketch bits cells packet row = bound_in hash_key sketch bits packet cell_max 0 cells row
 
 abbrev pub cells_for : Kind → List ℕ → Sketch → ℕ → List Packet → List (List ℕ)
-cells_for Cms key sketch bits packets = closed_cells key sketch bits packets
-cells_for SumaxSum key sketch bits packets = chained_cells key sketch bits packets
-cells_for SumaxMax key sketch bits packets = closed_cells key sketch bits packets
-cells_for Bloom key sketch bits packets = closed_cells key sketch bits packets
-cells_for Mrac key sketch bits packets = closed_cells key sketch bits packets
-cells_for Hll key sketch bits packets = closed_cells key sketch bits packets
-cells_for FlagOr key sketch bits packets = closed_cells key sketch bits packets
-cells_for FlagAnd key sketch bits packets = closed_cells key sketch bits packets
+cells_for Cms hash_key sketch bits packets = closed_cells hash_key sketch bits packets
+cells_for SumaxSum hash_key sketch bits packets = chained_cells hash_key sketch bits packets
+cells_for SumaxMax hash_key sketch bits packets = closed_cells hash_key sketch bits packets
+cells_for Bloom hash_key sketch bits packets = closed_cells hash_key sketch bits packets
+cells_for Mrac hash_key sketch bits packets = closed_cells hash_key sketch bits packets
+cells_for Hll hash_key sketch bits packets = closed_cells hash_key sketch bits packets
+cells_for FlagOr hash_key sketch bits packets = closed_cells hash_key sketch bits packets
+cells_for FlagAnd hash_key sketch bits packets = closed_cells hash_key sketch bits packets
 
 -- the rows of a task after these packets, each a list of `2 ^ bits` cells
 unfoldable pub cells_of : List ℕ → Sketch → ℕ → List Packet → List (List ℕ)
-cells_of key sketch bits packets = cells_for sketch.kind key sketch bits packets
+cells_of hash_key sketch bits packets = cells_for sketch.kind hash_key sketch bits packets
 
 abbrev pub row_of : List (List ℕ) → ℕ → List ℕ
 row_of rows row = slice_index_or rows row []

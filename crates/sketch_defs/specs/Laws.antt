@@ -25,8 +25,8 @@ weights_of sketch vector packets = map (λ packet. weight_of packet sketch.attr)
 
 -- what the task answers for the key value after these packets
 abbrev pub answered : List ℕ → Sketch → ℕ → List Packet → List ℕ → Reply
-answered key sketch bits packets vector =
-    let h = key_hash key sketch vector in answer_of sketch.kind (cells_found h bits (cells_of key sketch bits packets)) h
+answered hash_key sketch bits packets vector =
+    let h = key_hash hash_key sketch vector in answer_of sketch.kind (cells_found h bits (cells_of hash_key sketch bits packets)) h
 
 -- the weights are words, as those of a packet that was read are
 abbrev pub AreWords : Sketch → List Packet → Type 0
@@ -34,41 +34,41 @@ AreWords sketch packets = All (λ packet. weight_of packet sketch.attr ≤ cell_
 
 -- Count-Min answers no less than the sum
 abbrev pub CountMinIsAbove : Type 0
-CountMinIsAbove = (key : List ℕ) (sketch : Sketch) (bits : ℕ) (packets : List Packet) (vector : List ℕ)
+CountMinIsAbove = (hash_key : List ℕ) (sketch : Sketch) (bits : ℕ) (packets : List Packet) (vector : List ℕ)
     → sketch.kind ≡ Cms → bits ≤ 32
-    → (answer : ℕ) × (answered key sketch bits packets vector ≡ Number answer)
+    → (answer : ℕ) × (answered hash_key sketch bits packets vector ≡ Number answer)
     × (min (sum (weights_of sketch vector packets)) cell_max ≤ answer)
 
 -- so does SuMax that adds
 abbrev pub SumaxSumIsAbove : Type 0
-SumaxSumIsAbove = (key : List ℕ) (sketch : Sketch) (bits : ℕ) (packets : List Packet) (vector : List ℕ)
+SumaxSumIsAbove = (hash_key : List ℕ) (sketch : Sketch) (bits : ℕ) (packets : List Packet) (vector : List ℕ)
     → sketch.kind ≡ SumaxSum → bits ≤ 32
-    → (answer : ℕ) × (answered key sketch bits packets vector ≡ Number answer)
+    → (answer : ℕ) × (answered hash_key sketch bits packets vector ≡ Number answer)
     × (min (sum (weights_of sketch vector packets)) cell_max ≤ answer)
 
 -- SuMax that keeps the greatest answers no less than the greatest
 abbrev pub SumaxMaxIsAbove : Type 0
-SumaxMaxIsAbove = (key : List ℕ) (sketch : Sketch) (bits : ℕ) (packets : List Packet) (vector : List ℕ)
+SumaxMaxIsAbove = (hash_key : List ℕ) (sketch : Sketch) (bits : ℕ) (packets : List Packet) (vector : List ℕ)
     → sketch.kind ≡ SumaxMax → bits ≤ 32 → AreWords sketch packets
-    → (answer : ℕ) × (answered key sketch bits packets vector ≡ Number answer)
+    → (answer : ℕ) × (answered hash_key sketch bits packets vector ≡ Number answer)
     × (fold max 0 (weights_of sketch vector packets) ≤ answer)
 
 -- a Bloom filter misses no key value that came
 abbrev pub BloomMissesNone : Type 0
-BloomMissesNone = (key : List ℕ) (sketch : Sketch) (bits : ℕ) (packets : List Packet) (vector : List ℕ)
+BloomMissesNone = (hash_key : List ℕ) (sketch : Sketch) (bits : ℕ) (packets : List Packet) (vector : List ℕ)
     → sketch.kind ≡ Bloom → bits ≤ 32 → 1 ≤ length (packets_of sketch vector packets)
-    → answered key sketch bits packets vector ≡ Yes
+    → answered hash_key sketch bits packets vector ≡ Yes
 
 -- the flags that some packet set are all in the answer
 abbrev pub FlagOrHasAll : Type 0
-FlagOrHasAll = (key : List ℕ) (sketch : Sketch) (bits : ℕ) (packets : List Packet) (vector : List ℕ)
+FlagOrHasAll = (hash_key : List ℕ) (sketch : Sketch) (bits : ℕ) (packets : List Packet) (vector : List ℕ)
     → sketch.kind ≡ FlagOr → bits ≤ 32 → AreWords sketch packets
-    → (answer : ℕ) × (answered key sketch bits packets vector ≡ Number answer)
+    → (answer : ℕ) × (answered hash_key sketch bits packets vector ≡ Number answer)
     × (bit_and (fold bit_or 0 (weights_of sketch vector packets)) answer ≡ fold bit_or 0 (weights_of sketch vector packets))
 
 -- the answer has no flag that some packet did not set
 abbrev pub FlagAndHasNoOther : Type 0
-FlagAndHasNoOther = (key : List ℕ) (sketch : Sketch) (bits : ℕ) (packets : List Packet) (vector : List ℕ)
+FlagAndHasNoOther = (hash_key : List ℕ) (sketch : Sketch) (bits : ℕ) (packets : List Packet) (vector : List ℕ)
     → sketch.kind ≡ FlagAnd → bits ≤ 32
-    → (answer : ℕ) × (answered key sketch bits packets vector ≡ Number answer)
+    → (answer : ℕ) × (answered hash_key sketch bits packets vector ≡ Number answer)
     × (bit_and answer (fold bit_and cell_max (weights_of sketch vector packets)) ≡ answer)

@@ -18,7 +18,7 @@ use Rattle.stateful_ops.specs.Ops.{new_register, carry_of}
 use Rattle.sketch_defs.specs.declared.kinds.Kind.{Kind}
 use Rattle.sketch_defs.specs.declared.kinds.Kind.TheVariants.{Cms, SumaxSum, SumaxMax, Bloom, Mrac, Hll, FlagOr, FlagAnd}
 use Rattle.sketch_defs.specs.Tasks.{Sketch}
-use Rattle.sketch_defs.specs.Cells.{cell_max, key_hash, row_hash_at, place_at, brought_by, packets_at, gathered, closed_cell, closed_cells, raised_cell, next_bound, raised_rows, raised, chained_cells, bound_in, bound_at, cells_for, cells_of, row_of}
+use Rattle.sketch_defs.specs.Cells.{cell_max, key_hash, row_hash_at, index_at, brought_by, packets_at, gathered, closed_cell, closed_cells, raised_cell, next_bound, raised_rows, raised, chained_cells, bound_in, bound_at, cells_for, cells_of, row_of}
 use Rattle.sketch_lower.specs.Operations.{start_of, operation, operation_at, row_after}
 use Rattle.sketch_lower.specs.Laws.{CellsStart, CellsStep, CarryIsBound}
 
@@ -46,11 +46,11 @@ constant_range x from (suc n) = ap (λ xs. x ∷ xs) (constant_range x (from + 1
 
 -- ---- where a packet comes to
 
-pub place_lt : (key : List ℕ) (sketch : Sketch) (bits row : ℕ) (packet : Packet) → bits ≤ 32 → place_at key sketch bits row packet < 2 ^ bits
-unfolding place_at row_hash_at key_hash
-place_lt key sketch bits row packet few =
+pub place_lt : (hash_key : List ℕ) (sketch : Sketch) (bits row : ℕ) (packet : Packet) → bits ≤ 32 → index_at hash_key sketch bits row packet < 2 ^ bits
+unfolding index_at row_hash_at key_hash
+place_lt hash_key sketch bits row packet few =
     let bytes : List ℕ = and_bytes packet.vec (mask_bytes_of sketch.key) in
-    index_lt (row_hash_at key sketch row packet) bits (row_hash_lt (key_hash key sketch packet.vec) row (hash_lt key bytes)) few
+    index_lt (row_hash_at hash_key sketch row packet) bits (row_hash_lt (key_hash hash_key sketch packet.vec) row (hash_lt hash_key bytes)) few
 
 -- ---- kinds
 
@@ -58,20 +58,20 @@ pub cases_chained : (kind : Kind) → (kind ≡ SumaxSum) ⊎ (kind ≡ SumaxSum
 cases_chained SumaxSum = inl refl
 cases_chained _ = inr (λ q. (cc))
 
-closed_for : (kind : Kind) → (kind ≡ SumaxSum → ⊥) → (key : List ℕ) (sketch : Sketch) (bits : ℕ) (packets : List Packet)
-    → cells_for kind key sketch bits packets ≡ closed_cells key sketch bits packets
-closed_for SumaxSum other key sketch bits packets = absurd (other refl)
-closed_for _ other key sketch bits packets = refl
+closed_for : (kind : Kind) → (kind ≡ SumaxSum → ⊥) → (hash_key : List ℕ) (sketch : Sketch) (bits : ℕ) (packets : List Packet)
+    → cells_for kind hash_key sketch bits packets ≡ closed_cells hash_key sketch bits packets
+closed_for SumaxSum other hash_key sketch bits packets = absurd (other refl)
+closed_for _ other hash_key sketch bits packets = refl
 
-closed_is : (key : List ℕ) (sketch : Sketch) (bits : ℕ) (packets : List Packet) → (sketch.kind ≡ SumaxSum → ⊥)
-    → cells_of key sketch bits packets ≡ closed_cells key sketch bits packets
+closed_is : (hash_key : List ℕ) (sketch : Sketch) (bits : ℕ) (packets : List Packet) → (sketch.kind ≡ SumaxSum → ⊥)
+    → cells_of hash_key sketch bits packets ≡ closed_cells hash_key sketch bits packets
 unfolding cells_of
-closed_is key sketch bits packets other = closed_for sketch.kind other key sketch bits packets
+closed_is hash_key sketch bits packets other = closed_for sketch.kind other hash_key sketch bits packets
 
-pub chained_is : (key : List ℕ) (sketch : Sketch) (bits : ℕ) (packets : List Packet) → sketch.kind ≡ SumaxSum
-    → cells_of key sketch bits packets ≡ chained_cells key sketch bits packets
+pub chained_is : (hash_key : List ℕ) (sketch : Sketch) (bits : ℕ) (packets : List Packet) → sketch.kind ≡ SumaxSum
+    → cells_of hash_key sketch bits packets ≡ chained_cells hash_key sketch bits packets
 unfolding cells_of
-chained_is key sketch bits packets chained = ap (λ kind. cells_for kind key sketch bits packets) chained
+chained_is hash_key sketch bits packets chained = ap (λ kind. cells_for kind hash_key sketch bits packets) chained
 
 -- ---- closed kinds
 
@@ -110,199 +110,199 @@ filter_more_no : (p : Packet → Bool) (packets : List Packet) (packet : Packet)
     → filter p (packets ++ packet ∷ []) ≡ filter p packets
 filter_more_no p packets packet e = filter-append p packets (packet ∷ []) ∙ rw e (append-nil (filter p packets))
 
-closed_elsewhere : (key : List ℕ) (sketch : Sketch) (bits : ℕ) (packets : List Packet) (packet : Packet) (row index : ℕ)
-    → (index ≡ place_at key sketch bits row packet → ⊥)
-    → closed_cell key sketch bits (packets ++ packet ∷ []) row index ≡ closed_cell key sketch bits packets row index
+closed_elsewhere : (hash_key : List ℕ) (sketch : Sketch) (bits : ℕ) (packets : List Packet) (packet : Packet) (row index : ℕ)
+    → (index ≡ index_at hash_key sketch bits row packet → ⊥)
+    → closed_cell hash_key sketch bits (packets ++ packet ∷ []) row index ≡ closed_cell hash_key sketch bits packets row index
 unfolding closed_cell
-closed_elsewhere key sketch bits packets packet row index other =
-    ap (λ came. gathered sketch.kind (map (brought_by sketch.kind key sketch bits row) came))
-    (filter_more_no (λ p. place_at key sketch bits row p == index) packets packet
-    (ne_eqb (place_at key sketch bits row packet) index (λ e. other (sym e))))
+closed_elsewhere hash_key sketch bits packets packet row index other =
+    ap (λ came. gathered sketch.kind (map (brought_by sketch.kind hash_key sketch bits row) came))
+    (filter_more_no (λ p. index_at hash_key sketch bits row p == index) packets packet
+    (ne_eqb (index_at hash_key sketch bits row packet) index (λ e. other (sym e))))
 
-closed_here : (key : List ℕ) (sketch : Sketch) (bits : ℕ) (packets : List Packet) (packet : Packet) (row bound : ℕ)
+closed_here : (hash_key : List ℕ) (sketch : Sketch) (bits : ℕ) (packets : List Packet) (packet : Packet) (row bound : ℕ)
     → (sketch.kind ≡ SumaxSum → ⊥)
-    → let place = place_at key sketch bits row packet in
-    closed_cell key sketch bits (packets ++ packet ∷ []) row place
-    ≡ new_register (operation_at key sketch bits row packet bound) (closed_cell key sketch bits packets row place)
+    → let place = index_at hash_key sketch bits row packet in
+    closed_cell hash_key sketch bits (packets ++ packet ∷ []) row place
+    ≡ new_register (operation_at hash_key sketch bits row packet bound) (closed_cell hash_key sketch bits packets row place)
 unfolding closed_cell
-closed_here key sketch bits packets packet row bound other =
-    let place : ℕ = place_at key sketch bits row packet in
-    let brought : Packet → ℕ = brought_by sketch.kind key sketch bits row in
-    let came : List Packet = packets_at key sketch bits packets row place in
+closed_here hash_key sketch bits packets packet row bound other =
+    let place : ℕ = index_at hash_key sketch bits row packet in
+    let brought : Packet → ℕ = brought_by sketch.kind hash_key sketch bits row in
+    let came : List Packet = packets_at hash_key sketch bits packets row place in
     ap (λ ps. gathered sketch.kind (map brought ps))
-    (filter_more_yes (λ p. place_at key sketch bits row p == place) packets packet (eq-eqb place place refl))
+    (filter_more_yes (λ p. index_at hash_key sketch bits row p == place) packets packet (eq-eqb place place refl))
     ∙ ap (gathered sketch.kind) (map_push brought came packet)
     ∙ gathered_more sketch.kind (map brought came) (brought packet) bound other
 
-closed_row : (key : List ℕ) (sketch : Sketch) (bits : ℕ) (packets : List Packet) (row : ℕ) → row < sketch.rows
-    → row_of (closed_cells key sketch bits packets) row ≡ map (closed_cell key sketch bits packets row) (range_with_len 0 (2 ^ bits))
+closed_row : (hash_key : List ℕ) (sketch : Sketch) (bits : ℕ) (packets : List Packet) (row : ℕ) → row < sketch.rows
+    → row_of (closed_cells hash_key sketch bits packets) row ≡ map (closed_cell hash_key sketch bits packets row) (range_with_len 0 (2 ^ bits))
 unfolding closed_cells
-closed_row key sketch bits packets row within =
+closed_row hash_key sketch bits packets row within =
     let at : 0 + row ≡ row = omega arith in
-    get_or-map-range_with_len (λ i. map (closed_cell key sketch bits packets i) (range_with_len 0 (2 ^ bits))) 0 sketch.rows row row [] within at
+    get_or-map-range_with_len (λ i. map (closed_cell hash_key sketch bits packets i) (range_with_len 0 (2 ^ bits))) 0 sketch.rows row row [] within at
 
-closed_step : (key : List ℕ) (sketch : Sketch) (bits : ℕ) (packets : List Packet) (packet : Packet) (row bound : ℕ)
+closed_step : (hash_key : List ℕ) (sketch : Sketch) (bits : ℕ) (packets : List Packet) (packet : Packet) (row bound : ℕ)
     → (sketch.kind ≡ SumaxSum → ⊥) → bits ≤ 32 → row < sketch.rows
-    → row_of (closed_cells key sketch bits (packets ++ packet ∷ [])) row
-    ≡ row_after key sketch bits row packet bound (row_of (closed_cells key sketch bits packets) row)
+    → row_of (closed_cells hash_key sketch bits (packets ++ packet ∷ [])) row
+    ≡ row_after hash_key sketch bits row packet bound (row_of (closed_cells hash_key sketch bits packets) row)
 unfolding row_after
-closed_step key sketch bits packets packet row bound other few within =
-    let place : ℕ = place_at key sketch bits row packet in
-    let room : place < 2 ^ bits = place_lt key sketch bits row packet few in
-    let old : ℕ → ℕ = closed_cell key sketch bits packets row in
-    let new : ℕ → ℕ = closed_cell key sketch bits (packets ++ packet ∷ []) row in
+closed_step hash_key sketch bits packets packet row bound other few within =
+    let place : ℕ = index_at hash_key sketch bits row packet in
+    let room : place < 2 ^ bits = place_lt hash_key sketch bits row packet few in
+    let old : ℕ → ℕ = closed_cell hash_key sketch bits packets row in
+    let new : ℕ → ℕ = closed_cell hash_key sketch bits (packets ++ packet ∷ []) row in
     let cells : List ℕ = map old (range_with_len 0 (2 ^ bits)) in
     let at : 0 + place ≡ place = omega arith in
     let found : get_or cells place 0 ≡ old place = get_or-map-range_with_len old 0 (2 ^ bits) place place 0 room at in
-    let left : new place ≡ new_register (operation_at key sketch bits row packet bound) (get_or cells place 0) =
-    closed_here key sketch bits packets packet row bound other ∙ ap (new_register (operation_at key sketch bits row packet bound)) (sym found) in
-    closed_row key sketch bits (packets ++ packet ∷ []) row within
-    ∙ map_range_set old new (2 ^ bits) place room (λ j ne. closed_elsewhere key sketch bits packets packet row j ne)
+    let left : new place ≡ new_register (operation_at hash_key sketch bits row packet bound) (get_or cells place 0) =
+    closed_here hash_key sketch bits packets packet row bound other ∙ ap (new_register (operation_at hash_key sketch bits row packet bound)) (sym found) in
+    closed_row hash_key sketch bits (packets ++ packet ∷ []) row within
+    ∙ map_range_set old new (2 ^ bits) place room (λ j ne. closed_elsewhere hash_key sketch bits packets packet row j ne)
     ∙ ap (set cells place) left
-    ∙ ap (λ row_cells. set row_cells place (new_register (operation_at key sketch bits row packet bound) (get_or row_cells place 0)))
-    (sym (closed_row key sketch bits packets row within))
+    ∙ ap (λ row_cells. set row_cells place (new_register (operation_at hash_key sketch bits row packet bound) (get_or row_cells place 0)))
+    (sym (closed_row hash_key sketch bits packets row within))
 
 -- ---- the chained kind
 
-operation_chained : (key : List ℕ) (sketch : Sketch) (bits row : ℕ) (packet : Packet) (bound : ℕ) → sketch.kind ≡ SumaxSum
-    → operation_at key sketch bits row packet bound ≡ CondAdd (weight_of packet sketch.attr) bound
-operation_chained key sketch bits row packet bound chained =
-    ap (λ kind. operation kind (brought_by kind key sketch bits row packet) bound) chained
+operation_chained : (hash_key : List ℕ) (sketch : Sketch) (bits row : ℕ) (packet : Packet) (bound : ℕ) → sketch.kind ≡ SumaxSum
+    → operation_at hash_key sketch bits row packet bound ≡ CondAdd (weight_of packet sketch.attr) bound
+operation_chained hash_key sketch bits row packet bound chained =
+    ap (λ kind. operation kind (brought_by kind hash_key sketch bits row packet) bound) chained
 
 -- raising a row is its operation
-pub raised_after : (key : List ℕ) (sketch : Sketch) (bits row : ℕ) (packet : Packet) (bound : ℕ) (cells : List ℕ) → sketch.kind ≡ SumaxSum
-    → let place = place_at key sketch bits row packet in
-    set cells place (raised_cell (weight_of packet sketch.attr) bound (get_or cells place 0)) ≡ row_after key sketch bits row packet bound cells
+pub raised_after : (hash_key : List ℕ) (sketch : Sketch) (bits row : ℕ) (packet : Packet) (bound : ℕ) (cells : List ℕ) → sketch.kind ≡ SumaxSum
+    → let place = index_at hash_key sketch bits row packet in
+    set cells place (raised_cell (weight_of packet sketch.attr) bound (get_or cells place 0)) ≡ row_after hash_key sketch bits row packet bound cells
 unfolding row_after
-raised_after key sketch bits row packet bound cells chained =
-    let place : ℕ = place_at key sketch bits row packet in
-    ap (λ op. set cells place (new_register op (get_or cells place 0))) (sym (operation_chained key sketch bits row packet bound chained))
+raised_after hash_key sketch bits row packet bound cells chained =
+    let place : ℕ = index_at hash_key sketch bits row packet in
+    ap (λ op. set cells place (new_register op (get_or cells place 0))) (sym (operation_chained hash_key sketch bits row packet bound chained))
 
-pub carried : (key : List ℕ) (sketch : Sketch) (bits row : ℕ) (packet : Packet) (bound cell : ℕ) → sketch.kind ≡ SumaxSum
-    → carry_of (operation_at key sketch bits row packet bound) cell ≡ next_bound (weight_of packet sketch.attr) bound cell
-carried key sketch bits row packet bound cell chained = ap (λ op. carry_of op cell) (operation_chained key sketch bits row packet bound chained)
+pub carried : (hash_key : List ℕ) (sketch : Sketch) (bits row : ℕ) (packet : Packet) (bound cell : ℕ) → sketch.kind ≡ SumaxSum
+    → carry_of (operation_at hash_key sketch bits row packet bound) cell ≡ next_bound (weight_of packet sketch.attr) bound cell
+carried hash_key sketch bits row packet bound cell chained = ap (λ op. carry_of op cell) (operation_chained hash_key sketch bits row packet bound chained)
 
 -- one of the raised rows
-raised_row : (key : List ℕ) (sketch : Sketch) (bits : ℕ) (packet : Packet) (bound row : ℕ) (rows : List (List ℕ)) (i : ℕ)
+raised_row : (hash_key : List ℕ) (sketch : Sketch) (bits : ℕ) (packet : Packet) (bound row : ℕ) (rows : List (List ℕ)) (i : ℕ)
     → sketch.kind ≡ SumaxSum → i < length rows
-    → row_of (raised_rows key sketch bits packet bound row rows) i
-    ≡ row_after key sketch bits (row + i) packet (bound_in key sketch bits packet bound row rows i) (row_of rows i)
-raised_row key sketch bits packet bound row [] i chained within = absurd (omega arith)
-raised_row key sketch bits packet bound row (cells ∷ rows) zero chained within =
+    → row_of (raised_rows hash_key sketch bits packet bound row rows) i
+    ≡ row_after hash_key sketch bits (row + i) packet (bound_in hash_key sketch bits packet bound row rows i) (row_of rows i)
+raised_row hash_key sketch bits packet bound row [] i chained within = absurd (omega arith)
+raised_row hash_key sketch bits packet bound row (cells ∷ rows) zero chained within =
     let same : row ≡ row + 0 = omega arith in
-    raised_after key sketch bits row packet bound cells chained ∙ ap (λ r. row_after key sketch bits r packet bound cells) same
-raised_row key sketch bits packet bound row (cells ∷ rows) (suc i) chained within =
-    let next : ℕ = next_bound (weight_of packet sketch.attr) bound (get_or cells (place_at key sketch bits row packet) 0) in
+    raised_after hash_key sketch bits row packet bound cells chained ∙ ap (λ r. row_after hash_key sketch bits r packet bound cells) same
+raised_row hash_key sketch bits packet bound row (cells ∷ rows) (suc i) chained within =
+    let next : ℕ = next_bound (weight_of packet sketch.attr) bound (get_or cells (index_at hash_key sketch bits row packet) 0) in
     let same : row + 1 + i ≡ row + suc i = omega arith in
-    raised_row key sketch bits packet next (row + 1) rows i chained (omega arith)
-    ∙ ap (λ r. row_after key sketch bits r packet (bound_in key sketch bits packet next (row + 1) rows i) (row_of rows i)) same
+    raised_row hash_key sketch bits packet next (row + 1) rows i chained (omega arith)
+    ∙ ap (λ r. row_after hash_key sketch bits r packet (bound_in hash_key sketch bits packet next (row + 1) rows i) (row_of rows i)) same
 
-length-raised_rows : (key : List ℕ) (sketch : Sketch) (bits : ℕ) (packet : Packet) (bound row : ℕ) (rows : List (List ℕ))
-    → length (raised_rows key sketch bits packet bound row rows) ≡ length rows
-length-raised_rows key sketch bits packet bound row [] = refl
-length-raised_rows key sketch bits packet bound row (cells ∷ rows) =
+length-raised_rows : (hash_key : List ℕ) (sketch : Sketch) (bits : ℕ) (packet : Packet) (bound row : ℕ) (rows : List (List ℕ))
+    → length (raised_rows hash_key sketch bits packet bound row rows) ≡ length rows
+length-raised_rows hash_key sketch bits packet bound row [] = refl
+length-raised_rows hash_key sketch bits packet bound row (cells ∷ rows) =
     ap suc
-    (length-raised_rows key sketch bits packet
-    (next_bound (weight_of packet sketch.attr) bound (get_or cells (place_at key sketch bits row packet) 0)) (row + 1) rows)
+    (length-raised_rows hash_key sketch bits packet
+    (next_bound (weight_of packet sketch.attr) bound (get_or cells (index_at hash_key sketch bits row packet) 0)) (row + 1) rows)
 
-length-folded : (key : List ℕ) (sketch : Sketch) (bits : ℕ) (packets : List Packet) (rows : List (List ℕ))
-    → length (fold (raised key sketch bits) rows packets) ≡ length rows
+length-folded : (hash_key : List ℕ) (sketch : Sketch) (bits : ℕ) (packets : List Packet) (rows : List (List ℕ))
+    → length (fold (raised hash_key sketch bits) rows packets) ≡ length rows
 unfolding raised
-length-folded key sketch bits [] rows = refl
-length-folded key sketch bits (packet ∷ packets) rows =
-    length-folded key sketch bits packets (raised key sketch bits rows packet) ∙ length-raised_rows key sketch bits packet cell_max 0 rows
+length-folded hash_key sketch bits [] rows = refl
+length-folded hash_key sketch bits (packet ∷ packets) rows =
+    length-folded hash_key sketch bits packets (raised hash_key sketch bits rows packet) ∙ length-raised_rows hash_key sketch bits packet cell_max 0 rows
 
-length-chained : (key : List ℕ) (sketch : Sketch) (bits : ℕ) (packets : List Packet)
-    → length (chained_cells key sketch bits packets) ≡ sketch.rows
+length-chained : (hash_key : List ℕ) (sketch : Sketch) (bits : ℕ) (packets : List Packet)
+    → length (chained_cells hash_key sketch bits packets) ≡ sketch.rows
 unfolding chained_cells
-length-chained key sketch bits packets =
-    length-folded key sketch bits packets (replicate sketch.rows (replicate (2 ^ bits) 0))
+length-chained hash_key sketch bits packets =
+    length-folded hash_key sketch bits packets (replicate sketch.rows (replicate (2 ^ bits) 0))
     ∙ length-replicate sketch.rows (replicate (2 ^ bits) 0)
 
-pub chained_more : (key : List ℕ) (sketch : Sketch) (bits : ℕ) (packets : List Packet) (packet : Packet)
-    → chained_cells key sketch bits (packets ++ packet ∷ []) ≡ raised key sketch bits (chained_cells key sketch bits packets) packet
+pub chained_more : (hash_key : List ℕ) (sketch : Sketch) (bits : ℕ) (packets : List Packet) (packet : Packet)
+    → chained_cells hash_key sketch bits (packets ++ packet ∷ []) ≡ raised hash_key sketch bits (chained_cells hash_key sketch bits packets) packet
 unfolding chained_cells
-chained_more key sketch bits packets packet =
-    fold-append (raised key sketch bits) (replicate sketch.rows (replicate (2 ^ bits) 0)) packets (packet ∷ [])
+chained_more hash_key sketch bits packets packet =
+    fold-append (raised hash_key sketch bits) (replicate sketch.rows (replicate (2 ^ bits) 0)) packets (packet ∷ [])
 
-chained_step : (key : List ℕ) (sketch : Sketch) (bits : ℕ) (packets : List Packet) (packet : Packet) (row : ℕ)
+chained_step : (hash_key : List ℕ) (sketch : Sketch) (bits : ℕ) (packets : List Packet) (packet : Packet) (row : ℕ)
     → sketch.kind ≡ SumaxSum → row < sketch.rows
-    → let before = chained_cells key sketch bits packets in
-    row_of (chained_cells key sketch bits (packets ++ packet ∷ [])) row
-    ≡ row_after key sketch bits row packet (bound_at key sketch bits before packet row) (row_of before row)
+    → let before = chained_cells hash_key sketch bits packets in
+    row_of (chained_cells hash_key sketch bits (packets ++ packet ∷ [])) row
+    ≡ row_after hash_key sketch bits row packet (bound_at hash_key sketch bits before packet row) (row_of before row)
 unfolding raised bound_at
-chained_step key sketch bits packets packet row chained within =
-    let before : List (List ℕ) = chained_cells key sketch bits packets in
+chained_step hash_key sketch bits packets packet row chained within =
+    let before : List (List ℕ) = chained_cells hash_key sketch bits packets in
     let same : 0 + row ≡ row = omega arith in
-    ap (λ rows. row_of rows row) (chained_more key sketch bits packets packet)
-    ∙ raised_row key sketch bits packet cell_max 0 before row chained (omega (arith, within, length-chained key sketch bits packets))
-    ∙ ap (λ r. row_after key sketch bits r packet (bound_in key sketch bits packet cell_max 0 before row) (row_of before row)) same
+    ap (λ rows. row_of rows row) (chained_more hash_key sketch bits packets packet)
+    ∙ raised_row hash_key sketch bits packet cell_max 0 before row chained (omega (arith, within, length-chained hash_key sketch bits packets))
+    ∙ ap (λ r. row_after hash_key sketch bits r packet (bound_in hash_key sketch bits packet cell_max 0 before row) (row_of before row)) same
 
 -- the bound after one row more
-bound_more : (key : List ℕ) (sketch : Sketch) (bits : ℕ) (packet : Packet) (bound row : ℕ) (rows : List (List ℕ)) (i : ℕ) → i < length rows
-    → bound_in key sketch bits packet bound row rows (suc i)
-    ≡ next_bound (weight_of packet sketch.attr) (bound_in key sketch bits packet bound row rows i)
-    (get_or (row_of rows i) (place_at key sketch bits (row + i) packet) 0)
-bound_more key sketch bits packet bound row [] i within = absurd (omega arith)
-bound_more key sketch bits packet bound row (cells ∷ rows) zero within =
+bound_more : (hash_key : List ℕ) (sketch : Sketch) (bits : ℕ) (packet : Packet) (bound row : ℕ) (rows : List (List ℕ)) (i : ℕ) → i < length rows
+    → bound_in hash_key sketch bits packet bound row rows (suc i)
+    ≡ next_bound (weight_of packet sketch.attr) (bound_in hash_key sketch bits packet bound row rows i)
+    (get_or (row_of rows i) (index_at hash_key sketch bits (row + i) packet) 0)
+bound_more hash_key sketch bits packet bound row [] i within = absurd (omega arith)
+bound_more hash_key sketch bits packet bound row (cells ∷ rows) zero within =
     let same : row ≡ row + 0 = omega arith in
-    ap (λ r. next_bound (weight_of packet sketch.attr) bound (get_or cells (place_at key sketch bits r packet) 0)) same
-bound_more key sketch bits packet bound row (cells ∷ rows) (suc i) within =
-    let next : ℕ = next_bound (weight_of packet sketch.attr) bound (get_or cells (place_at key sketch bits row packet) 0) in
+    ap (λ r. next_bound (weight_of packet sketch.attr) bound (get_or cells (index_at hash_key sketch bits r packet) 0)) same
+bound_more hash_key sketch bits packet bound row (cells ∷ rows) (suc i) within =
+    let next : ℕ = next_bound (weight_of packet sketch.attr) bound (get_or cells (index_at hash_key sketch bits row packet) 0) in
     let same : row + 1 + i ≡ row + suc i = omega arith in
-    bound_more key sketch bits packet next (row + 1) rows i (omega arith)
-    ∙ ap (λ r. next_bound (weight_of packet sketch.attr) (bound_in key sketch bits packet next (row + 1) rows i)
-    (get_or (row_of rows i) (place_at key sketch bits r packet) 0)) same
+    bound_more hash_key sketch bits packet next (row + 1) rows i (omega arith)
+    ∙ ap (λ r. next_bound (weight_of packet sketch.attr) (bound_in hash_key sketch bits packet next (row + 1) rows i)
+    (get_or (row_of rows i) (index_at hash_key sketch bits r packet) 0)) same
 
 -- ---- all kinds
 
 pub cells_start : CellsStart
 unfolding closed_cells closed_cell chained_cells
-cells_start key sketch bits =
+cells_start hash_key sketch bits =
     ⊎_elim
     (λ (chained : sketch.kind ≡ SumaxSum).
-    chained_is key sketch bits [] chained
+    chained_is hash_key sketch bits [] chained
     ∙ ap (λ n. replicate sketch.rows (replicate (2 ^ bits) n)) (ap start_of (sym chained)))
     (λ (other : sketch.kind ≡ SumaxSum → ⊥).
-    closed_is key sketch bits [] other
+    closed_is hash_key sketch bits [] other
     ∙ constant_range (map (λ (i : ℕ). gathered sketch.kind []) (range_with_len 0 (2 ^ bits))) 0 sketch.rows
     ∙ ap (replicate sketch.rows) (constant_range (gathered sketch.kind []) 0 (2 ^ bits) ∙ ap (replicate (2 ^ bits)) (none_gathered sketch.kind)))
     (cases_chained sketch.kind)
 
 pub cells_step : CellsStep
-cells_step key sketch bits packets packet row few within =
+cells_step hash_key sketch bits packets packet row few within =
     ⊎_elim
     (λ (chained : sketch.kind ≡ SumaxSum).
-    ap (λ cells. row_of cells row) (chained_is key sketch bits (packets ++ packet ∷ []) chained)
-    ∙ chained_step key sketch bits packets packet row chained within
-    ∙ ap (λ cells. row_after key sketch bits row packet (bound_at key sketch bits cells packet row) (row_of cells row))
-    (sym (chained_is key sketch bits packets chained)))
+    ap (λ cells. row_of cells row) (chained_is hash_key sketch bits (packets ++ packet ∷ []) chained)
+    ∙ chained_step hash_key sketch bits packets packet row chained within
+    ∙ ap (λ cells. row_after hash_key sketch bits row packet (bound_at hash_key sketch bits cells packet row) (row_of cells row))
+    (sym (chained_is hash_key sketch bits packets chained)))
     (λ (other : sketch.kind ≡ SumaxSum → ⊥).
-    let bound : ℕ = bound_at key sketch bits (cells_of key sketch bits packets) packet row in
-    ap (λ cells. row_of cells row) (closed_is key sketch bits (packets ++ packet ∷ []) other)
-    ∙ closed_step key sketch bits packets packet row bound other few within
-    ∙ ap (λ cells. row_after key sketch bits row packet bound (row_of cells row)) (sym (closed_is key sketch bits packets other)))
+    let bound : ℕ = bound_at hash_key sketch bits (cells_of hash_key sketch bits packets) packet row in
+    ap (λ cells. row_of cells row) (closed_is hash_key sketch bits (packets ++ packet ∷ []) other)
+    ∙ closed_step hash_key sketch bits packets packet row bound other few within
+    ∙ ap (λ cells. row_after hash_key sketch bits row packet bound (row_of cells row)) (sym (closed_is hash_key sketch bits packets other)))
     (cases_chained sketch.kind)
 
 -- there are as many rows as the task has
-pub length-cells : (key : List ℕ) (sketch : Sketch) (bits : ℕ) (packets : List Packet) → length (cells_of key sketch bits packets) ≡ sketch.rows
+pub length-cells : (hash_key : List ℕ) (sketch : Sketch) (bits : ℕ) (packets : List Packet) → length (cells_of hash_key sketch bits packets) ≡ sketch.rows
 unfolding closed_cells
-length-cells key sketch bits packets =
+length-cells hash_key sketch bits packets =
     ⊎_elim
-    (λ (chained : sketch.kind ≡ SumaxSum). ap length (chained_is key sketch bits packets chained) ∙ length-chained key sketch bits packets)
+    (λ (chained : sketch.kind ≡ SumaxSum). ap length (chained_is hash_key sketch bits packets chained) ∙ length-chained hash_key sketch bits packets)
     (λ (other : sketch.kind ≡ SumaxSum → ⊥).
-    ap length (closed_is key sketch bits packets other)
-    ∙ length-map-range_with_len (λ i. map (closed_cell key sketch bits packets i) (range_with_len 0 (2 ^ bits))) 0 sketch.rows)
+    ap length (closed_is hash_key sketch bits packets other)
+    ∙ length-map-range_with_len (λ i. map (closed_cell hash_key sketch bits packets i) (range_with_len 0 (2 ^ bits))) 0 sketch.rows)
     (cases_chained sketch.kind)
 
 pub carry_is_bound : CarryIsBound
 unfolding bound_at
-carry_is_bound key sketch bits packets packet row chained within =
-    let before : List (List ℕ) = cells_of key sketch bits packets in
-    let bound : ℕ = bound_in key sketch bits packet cell_max 0 before row in
+carry_is_bound hash_key sketch bits packets packet row chained within =
+    let before : List (List ℕ) = cells_of hash_key sketch bits packets in
+    let bound : ℕ = bound_in hash_key sketch bits packet cell_max 0 before row in
     let same : 0 + row ≡ row = omega arith in
     let next : suc row ≡ row + 1 = omega arith in
-    carried key sketch bits row packet bound (get_or (row_of before row) (place_at key sketch bits row packet) 0) chained
-    ∙ ap (λ r. next_bound (weight_of packet sketch.attr) bound (get_or (row_of before row) (place_at key sketch bits r packet) 0)) (sym same)
-    ∙ sym (bound_more key sketch bits packet cell_max 0 before row (omega (arith, within, length-cells key sketch bits packets)))
-    ∙ ap (bound_in key sketch bits packet cell_max 0 before) next
+    carried hash_key sketch bits row packet bound (get_or (row_of before row) (index_at hash_key sketch bits row packet) 0) chained
+    ∙ ap (λ r. next_bound (weight_of packet sketch.attr) bound (get_or (row_of before row) (index_at hash_key sketch bits r packet) 0)) (sym same)
+    ∙ sym (bound_more hash_key sketch bits packet cell_max 0 before row (omega (arith, within, length-cells hash_key sketch bits packets)))
+    ∙ ap (bound_in hash_key sketch bits packet cell_max 0 before) next

@@ -15,7 +15,7 @@ use Rattle.stateful_ops.specs.Ops.{new_register}
 use Rattle.sketch_defs.specs.declared.kinds.Kind.{Kind}
 use Rattle.sketch_defs.specs.declared.kinds.Kind.TheVariants.{Cms, SumaxSum, SumaxMax, Bloom, Mrac, Hll, FlagOr, FlagAnd}
 use Rattle.sketch_defs.specs.Tasks.{Sketch}
-use Rattle.sketch_defs.specs.Cells.{row_hash_at, place_at, brought_by, cells_of, bound_at, row_of}
+use Rattle.sketch_defs.specs.Cells.{row_hash_at, index_at, brought_by, cells_of, bound_at, row_of}
 use Rattle.sketch_lower.specs.Operations.{start_of, operation, row_after, row_left, IsPacket}
 use Rattle.sketch_lower.proofs.RowLemmas.{row_leaves}
 
@@ -30,11 +30,11 @@ weight_fits packet Ttl good = omega (arith, good.ttl)
 weight_fits packet Flags good = omega (arith, good.flags)
 weight_fits packet Flow good = omega arith
 
-brought_fits : (kind : Kind) (key : List ℕ) (sketch : Sketch) (bits row : ℕ) (packet : Packet) → bits ≤ 32 → IsPacket packet
-    → brought_by kind key sketch bits row packet < 2 ^ 32
-brought_fits Bloom key sketch bits row packet few good = pow-lt (bit_lt (row_hash_at key sketch row packet))
-brought_fits Hll key sketch bits row packet few good = omega (arith, rho_le (row_hash_at key sketch row packet) bits few)
-brought_fits _ key sketch bits row packet few good = weight_fits packet sketch.attr good
+brought_fits : (kind : Kind) (hash_key : List ℕ) (sketch : Sketch) (bits row : ℕ) (packet : Packet) → bits ≤ 32 → IsPacket packet
+    → brought_by kind hash_key sketch bits row packet < 2 ^ 32
+brought_fits Bloom hash_key sketch bits row packet few good = pow-lt (bit_lt (row_hash_at hash_key sketch row packet))
+brought_fits Hll hash_key sketch bits row packet few good = omega (arith, rho_le (row_hash_at hash_key sketch row packet) bits few)
+brought_fits _ hash_key sketch bits row packet few good = weight_fits packet sketch.attr good
 
 added_fits : (x bound register : ℕ) → register < 2 ^ 32 → (if nat_lt register bound then min (register + x) 4294967295 else register) < 2 ^ 32
 added_fits x bound register small = grind (arith, nat_tests)
@@ -73,26 +73,26 @@ set_fits registers place x small fit index =
     (λ (past : length registers ≤ place). subst Fit (sym (set_past registers place x past)) fit index)
     (cases_lt place (length registers))
 
-left_fits : (key : List ℕ) (sketch : Sketch) (bits row : ℕ) (before packets : List Packet) (registers : List ℕ) → bits ≤ 32
-    → All IsPacket packets → Fit registers → Fit (row_left key sketch bits row before packets registers)
+left_fits : (hash_key : List ℕ) (sketch : Sketch) (bits row : ℕ) (before packets : List Packet) (registers : List ℕ) → bits ≤ 32
+    → All IsPacket packets → Fit registers → Fit (row_left hash_key sketch bits row before packets registers)
 unfolding row_after
-left_fits key sketch bits row before [] registers few good fit = fit
-left_fits key sketch bits row before (packet ∷ packets) registers few good fit =
-    let place : ℕ = place_at key sketch bits row packet in
-    let bound : ℕ = bound_at key sketch bits (cells_of key sketch bits before) packet row in
-    let x : ℕ = brought_by sketch.kind key sketch bits row packet in
-    left_fits key sketch bits row (before ++ packet ∷ []) packets (row_after key sketch bits row packet bound registers) few
+left_fits hash_key sketch bits row before [] registers few good fit = fit
+left_fits hash_key sketch bits row before (packet ∷ packets) registers few good fit =
+    let place : ℕ = index_at hash_key sketch bits row packet in
+    let bound : ℕ = bound_at hash_key sketch bits (cells_of hash_key sketch bits before) packet row in
+    let x : ℕ = brought_by sketch.kind hash_key sketch bits row packet in
+    left_fits hash_key sketch bits row (before ++ packet ∷ []) packets (row_after hash_key sketch bits row packet bound registers) few
     (λ k d h. good (suc k) d (omega (arith, h)))
     (set_fits registers place (new_register (operation sketch.kind x bound) (get_or registers place 0))
     (new_fits sketch.kind x bound (get_or registers place 0)
-    (brought_fits sketch.kind key sketch bits row packet few (good 0 packet (omega arith))) (fit place))
+    (brought_fits sketch.kind hash_key sketch bits row packet few (good 0 packet (omega arith))) (fit place))
     fit)
 
 -- each cell of a row fits a register
-pub cells_fit : (key : List ℕ) (sketch : Sketch) (bits : ℕ) (packets : List Packet) (row : ℕ) → bits ≤ 32 → row < sketch.rows
+pub cells_fit : (hash_key : List ℕ) (sketch : Sketch) (bits : ℕ) (packets : List Packet) (row : ℕ) → bits ≤ 32 → row < sketch.rows
     → All IsPacket packets
-    → (index : ℕ) → get_or (row_of (cells_of key sketch bits packets) row) index 0 < 2 ^ 32
-cells_fit key sketch bits packets row few within good =
-    subst Fit (row_leaves key sketch bits packets row few within)
-    (left_fits key sketch bits row [] packets (replicate (2 ^ bits) (start_of sketch.kind)) few good
+    → (index : ℕ) → get_or (row_of (cells_of hash_key sketch bits packets) row) index 0 < 2 ^ 32
+cells_fit hash_key sketch bits packets row few within good =
+    subst Fit (row_leaves hash_key sketch bits packets row few within)
+    (left_fits hash_key sketch bits row [] packets (replicate (2 ^ bits) (start_of sketch.kind)) few good
     (replicate_fits (2 ^ bits) (start_of sketch.kind) (start_fits sketch.kind)))

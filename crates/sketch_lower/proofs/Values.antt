@@ -13,13 +13,13 @@ use Rattle.hash_units.specs.Toeplitz.{window, hash_of, rho_of}
 use Rattle.task_filters.specs.Filters.{Pattern}
 use Rattle.addr_translate.specs.Blocks.{Block}
 use Rattle.group_keys.specs.declared.uses.KeyUse.TheVariants.{Single, Pair}
-use Rattle.match_table.specs.declared.micros.Code.TheVariants.{CondAdd, Max, And, Or}
-use Rattle.match_table.specs.declared.micros.First.TheVariants.{Weight, Bit, Rho}
-use Rattle.match_table.specs.declared.micros.Second.TheVariants.{Top, Carry}
+use Rattle.match_table.specs.declared.operations.Code.TheVariants.{CondAdd, Max, And, Or}
+use Rattle.match_table.specs.declared.operations.First.TheVariants.{Weight, Bit, Rho}
+use Rattle.match_table.specs.declared.operations.Second.TheVariants.{Top, Carry}
 use Rattle.sketch_defs.specs.declared.kinds.Kind.{Kind}
 use Rattle.sketch_defs.specs.declared.kinds.Kind.TheVariants.{SumaxSum, Bloom, Hll, FlagAnd}
 use Rattle.sketch_defs.specs.Tasks.{Sketch}
-use Rattle.sketch_defs.specs.Cells.{key_hash, row_hash_at, place_at}
+use Rattle.sketch_defs.specs.Cells.{key_hash, row_hash_at, index_at}
 use Rattle.sketch_lower.specs.Lowering.{entry_of}
 use Rattle.sketch_lower.specs.Operations.{row_after, passed, rows_left}
 
@@ -77,14 +77,14 @@ packet_from x flags = record {
 -- the carry of row 0 keeps row 1 from being raised by the last packet
 least_raised : rows_left standard_key (task SumaxSum 3 Packets) 1 (packet_from 3 2 ∷ packet_from 3 2 ∷ packet_from 1 2 ∷ [])
     ≡ (2 ∷ 1 ∷ []) ∷ (0 ∷ 2 ∷ []) ∷ (1 ∷ 2 ∷ []) ∷ []
-unfolding rows_left passed row_after place_at row_hash_at key_hash hash_of window mask_bytes_of
+unfolding rows_left passed row_after index_at row_hash_at key_hash hash_of window mask_bytes_of
 least_raised = refl
 
 flags_of_all : rows_left standard_key (task FlagAnd 1 Flags) 5 (packet_from 1 2 ∷ packet_from 1 18 ∷ [])
     ≡ (replicate 18 4294967295 ++ 2 ∷ replicate 13 4294967295) ∷ []
-unfolding rows_left passed row_after place_at row_hash_at key_hash hash_of window mask_bytes_of
+unfolding rows_left passed row_after index_at row_hash_at key_hash hash_of window mask_bytes_of
 flags_of_all = refl
 
 ranks : rows_left standard_key (task Hll 1 Flow) 5 (packet_from 1 2 ∷ []) ≡ (replicate 18 0 ++ 3 ∷ replicate 13 0) ∷ []
-unfolding rows_left passed row_after place_at row_hash_at key_hash hash_of window mask_bytes_of rho_of count_leading_zeros
+unfolding rows_left passed row_after index_at row_hash_at key_hash hash_of window mask_bytes_of rho_of count_leading_zeros
 ranks = refl

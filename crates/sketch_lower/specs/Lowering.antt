@@ -2,18 +2,18 @@
 use Rattle.std.specs.Prelude.{ℕ, List, [], ◌∷◌, ◌++◌, slice_index, slice_set, Option, None, Some}
 use Rattle.pkt_headers.specs.declared.packets.Packet.{Packet}
 use Rattle.stateful_ops.specs.Ops.{new_register}
-use Rattle.match_table.specs.Micros.{operation_by}
+use Rattle.match_table.specs.Operations.{operation_by}
 use Rattle.sketch_defs.specs.Cells.{row_hash_at, bound_at, cells_of}
 use Rattle.pkt_headers.specs.declared.packets.Attr.{Attr}
 use Rattle.addr_translate.specs.Blocks.{Block, index_of}
 use Rattle.group_keys.specs.declared.uses.KeyUse.{KeyUse}
-use Rattle.match_table.specs.declared.micros.Code.{Code}
-use Rattle.match_table.specs.declared.micros.Code.TheVariants.{CondAdd, Max, And, Or}
-use Rattle.match_table.specs.declared.micros.First.{First}
-use Rattle.match_table.specs.declared.micros.First.TheVariants.{Weight, Bit, Rho}
-use Rattle.match_table.specs.declared.micros.Second.{Second}
-use Rattle.match_table.specs.declared.micros.Second.TheVariants.{Top, Carry}
-use Rattle.match_table.specs.declared.micros.Micro.{Micro}
+use Rattle.match_table.specs.declared.operations.Code.{Code}
+use Rattle.match_table.specs.declared.operations.Code.TheVariants.{CondAdd, Max, And, Or}
+use Rattle.match_table.specs.declared.operations.First.{First}
+use Rattle.match_table.specs.declared.operations.First.TheVariants.{Weight, Bit, Rho}
+use Rattle.match_table.specs.declared.operations.Second.{Second}
+use Rattle.match_table.specs.declared.operations.Second.TheVariants.{Top, Carry}
+use Rattle.match_table.specs.declared.operations.Micro.{Micro}
 use Rattle.match_table.specs.declared.entries.Entry.{Entry}
 use Rattle.sketch_defs.specs.declared.kinds.Kind.{Kind}
 use Rattle.sketch_defs.specs.declared.kinds.Kind.TheVariants.{Cms, SumaxSum, SumaxMax, Bloom, Mrac, Hll, FlagOr, FlagAnd}
@@ -46,14 +46,14 @@ entry_of sketch row keys region before =
 
 -- the registers of an entry's region after the operation that it makes for a packet, under this carry from another row
 unfoldable pub entry_after : List ℕ → Sketch → Entry → Packet → ℕ → List ℕ → List ℕ
-entry_after key sketch entry packet carry registers =
-    let h = row_hash_at key sketch entry.row packet in
+entry_after hash_key sketch entry packet carry registers =
+    let h = row_hash_at hash_key sketch entry.row packet in
     let place = index_of h entry.region.bits in
     slice_set registers place (new_register (operation_by entry.micro h entry.region.bits packet carry) (slice_index registers place))
 
 -- the registers after these packets, where those before them came too: the carry is the bound that their cells leave the row
 abbrev pub entry_left : List ℕ → Sketch → Entry → List Packet → List Packet → List ℕ → List ℕ
-entry_left key sketch entry before [] registers = registers
-entry_left key sketch entry before (packet ∷ packets) registers =
-    let bound = bound_at key sketch entry.region.bits (cells_of key sketch entry.region.bits before) packet entry.row in
-    entry_left key sketch entry (before ++ packet ∷ []) packets (entry_after key sketch entry packet bound registers)
+entry_left hash_key sketch entry before [] registers = registers
+entry_left hash_key sketch entry before (packet ∷ packets) registers =
+    let bound = bound_at hash_key sketch entry.region.bits (cells_of hash_key sketch entry.region.bits before) packet entry.row in
+    entry_left hash_key sketch entry (before ++ packet ∷ []) packets (entry_after hash_key sketch entry packet bound registers)

@@ -8,7 +8,7 @@ use Rattle.stateful_ops.specs.Ops.{new_register, carry_of}
 use Rattle.sketch_defs.specs.declared.kinds.Kind.{Kind}
 use Rattle.sketch_defs.specs.declared.kinds.Kind.TheVariants.{Cms, SumaxSum, SumaxMax, Bloom, Mrac, Hll, FlagOr, FlagAnd}
 use Rattle.sketch_defs.specs.Tasks.{Sketch}
-use Rattle.sketch_defs.specs.Cells.{cell_max, place_at, brought_by, cells_of, bound_at}
+use Rattle.sketch_defs.specs.Cells.{cell_max, index_at, brought_by, cells_of, bound_at}
 
 -- what each register of a row holds before any packet
 abbrev pub start_of : Kind → ℕ
@@ -34,32 +34,32 @@ operation FlagAnd brought bound = And brought
 
 -- the operation of a row for a packet, under this bound
 abbrev pub operation_at : List ℕ → Sketch → ℕ → ℕ → Packet → ℕ → Op
-operation_at key sketch bits row packet bound = operation sketch.kind (brought_by sketch.kind key sketch bits row packet) bound
+operation_at hash_key sketch bits row packet bound = operation sketch.kind (brought_by sketch.kind hash_key sketch bits row packet) bound
 
 -- the registers of a row after its operation for a packet, under this bound
 unfoldable pub row_after : List ℕ → Sketch → ℕ → ℕ → Packet → ℕ → List ℕ → List ℕ
-row_after key sketch bits row packet bound registers =
-    let place = place_at key sketch bits row packet in
-    slice_set registers place (new_register (operation_at key sketch bits row packet bound) (slice_index registers place))
+row_after hash_key sketch bits row packet bound registers =
+    let place = index_at hash_key sketch bits row packet in
+    slice_set registers place (new_register (operation_at hash_key sketch bits row packet bound) (slice_index registers place))
 
 -- the registers of a row after these packets, where those before them came to the cells too: each packet finds the bound that
 -- the cells leave it
 abbrev pub row_left : List ℕ → Sketch → ℕ → ℕ → List Packet → List Packet → List ℕ → List ℕ
-row_left key sketch bits row before [] registers = registers
-row_left key sketch bits row before (packet ∷ packets) registers =
-    row_left key sketch bits row (before ++ packet ∷ []) packets
-    (row_after key sketch bits row packet (bound_at key sketch bits (cells_of key sketch bits before) packet row) registers)
+row_left hash_key sketch bits row before [] registers = registers
+row_left hash_key sketch bits row before (packet ∷ packets) registers =
+    row_left hash_key sketch bits row (before ++ packet ∷ []) packets
+    (row_after hash_key sketch bits row packet (bound_at hash_key sketch bits (cells_of hash_key sketch bits before) packet row) registers)
 
 -- the registers of the rows from this one on after a packet: each row hands its carry to the next as its bound
 abbrev pub rows_after : List ℕ → Sketch → ℕ → Packet → ℕ → ℕ → List (List ℕ) → List (List ℕ)
-rows_after key sketch bits packet bound row [] = []
-rows_after key sketch bits packet bound row (registers ∷ rows) =
-    row_after key sketch bits row packet bound registers
-    ∷ rows_after key sketch bits packet
-    (carry_of (operation_at key sketch bits row packet bound) (slice_index registers (place_at key sketch bits row packet))) (row + 1) rows
+rows_after hash_key sketch bits packet bound row [] = []
+rows_after hash_key sketch bits packet bound row (registers ∷ rows) =
+    row_after hash_key sketch bits row packet bound registers
+    ∷ rows_after hash_key sketch bits packet
+    (carry_of (operation_at hash_key sketch bits row packet bound) (slice_index registers (index_at hash_key sketch bits row packet))) (row + 1) rows
 
 unfoldable pub passed : List ℕ → Sketch → ℕ → List (List ℕ) → Packet → List (List ℕ)
-passed key sketch bits rows packet = rows_after key sketch bits packet cell_max 0 rows
+passed hash_key sketch bits rows packet = rows_after hash_key sketch bits packet cell_max 0 rows
 
 -- the registers of all rows before any packet
 abbrev pub started : Sketch → ℕ → List (List ℕ)
@@ -67,7 +67,7 @@ started sketch bits = replicate sketch.rows (replicate (2 ^ bits) (start_of sket
 
 -- and after these packets
 unfoldable pub rows_left : List ℕ → Sketch → ℕ → List Packet → List (List ℕ)
-rows_left key sketch bits packets = fold (passed key sketch bits) (started sketch bits) packets
+rows_left hash_key sketch bits packets = fold (passed hash_key sketch bits) (started sketch bits) packets
 
 -- the numbers of a packet fit their types
 pub record IsPacket (packet : Packet) : Type 0 where

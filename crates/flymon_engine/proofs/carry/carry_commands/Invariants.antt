@@ -11,14 +11,14 @@ invariant-commands g l = let r = g.R.RegFile in let o = g.O.Sink in let job = jo
   later : o.faults l.fn.out ≤ o.faults l.out;
   regs_later : r.faults l.fn.regs ≤ r.faults l.regs;
   dims : r.dims l.regs ≡ r.dims l.fn.regs;
-  told : IsToldBefore (r.cells l.fn.regs) (r.cells l.regs);
+  told : IsToldBefore (r.contents l.fn.regs) (r.contents l.regs);
   room : l.reader ≡ l.fn.reader;
   inside : l.taken ≤ length l.packets;
-  cells : IfSome (r.cells l.regs) (AreCells l.live.key job (matched job (take l.taken l.packets)));
+  cells : IfSome (r.contents l.regs) (AreCells l.live.hash_key job (matched job (take l.taken l.packets)));
   last : state_from job l.fault (state_at job l.packets l.taken) (drop l.command-index l.commands) ≡ state_from job l.fault (start l.packets) l.commands;
   met : fault_from job l.fault (state_at job l.packets l.taken) (drop l.command-index l.commands) ≡ fault_from job l.fault (start l.packets) l.commands;
-  calls : CameSoFar (r.calls l.fn.regs) (calls_from l.live.key job l.fault (start l.packets) l.commands)
-      (calls_from l.live.key job l.fault (state_at job l.packets l.taken) (drop l.command-index l.commands)) (r.calls l.regs);
-  sent : IfSome (r.cells l.regs) (λ _. CameSoFar (o.sent l.fn.out) (text_from l.live.key job l.fault (start l.packets) l.commands)
-      (text_from l.live.key job l.fault (state_at job l.packets l.taken) (drop l.command-index l.commands)) (o.sent l.out));
+  calls : CameSoFar (r.calls l.fn.regs) (calls_from l.live.hash_key job l.fault (start l.packets) l.commands)
+      (calls_from l.live.hash_key job l.fault (state_at job l.packets l.taken) (drop l.command-index l.commands)) (r.calls l.regs);
+  sent : IfSome (r.contents l.regs) (λ _. CameSoFar (o.sent l.fn.out) (text_from l.live.hash_key job l.fault (start l.packets) l.commands)
+      (text_from l.live.hash_key job l.fault (state_at job l.packets l.taken) (drop l.command-index l.commands)) (o.sent l.out));
 }

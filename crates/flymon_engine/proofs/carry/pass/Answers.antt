@@ -18,13 +18,13 @@ packets-preserved g c =
     record {
       faults = search rules;
       dims = search rules;
-      told = told_then (r.cells c.args.regs.now) (r.cells c.packets.regs) (r.cells c.count.new.regs) (λ x y z p q. tt) c.packets.invariant.told c.count.ensures.told;
-      cells = subst (λ (past : List Packet). IfSome (r.cells c.count.new.regs) (AreCells live.key job past))
+      told = told_then (r.contents c.args.regs.now) (r.contents c.packets.regs) (r.contents c.count.new.regs) (λ x y z p q. tt) c.packets.invariant.told c.count.ensures.told;
+      cells = subst (λ (counted_packets : List Packet). IfSome (r.contents c.count.new.regs) (AreCells live.hash_key job counted_packets))
           (sym (matched_more job c.args.packets.now c.packets.at packet inside c.index-packets-at.is))
-          (c.count.ensures.cells (matched job (take c.packets.at c.args.packets.now)) c.packets.invariant.cells);
+          (c.count.ensures.contents (matched job (take c.packets.at c.args.packets.now)) c.packets.invariant.cells);
       calls = subst (λ (calls : List Call). Grows (r.calls c.args.regs.now) calls (r.calls c.count.new.regs))
-          (calls_one_more live.key job c.args.packets.now c.args.from c.packets.at packet low inside c.index-packets-at.is)
+          (calls_one_more live.hash_key job c.args.packets.now c.args.from c.packets.at packet low inside c.index-packets-at.is)
           (grows_then (r.calls c.args.regs.now) (r.calls c.packets.regs) (r.calls c.count.new.regs)
-          (flat_map (calls_on live.key job) (matched job (take (c.packets.at - c.args.from) (drop c.args.from c.args.packets.now))))
-          (flat_map (calls_on live.key job) (matched job (packet ∷ []))) c.packets.invariant.calls c.count.ensures.calls);
+          (flat_map (calls_on live.hash_key job) (matched job (take (c.packets.at - c.args.from) (drop c.args.from c.args.packets.now))))
+          (flat_map (calls_on live.hash_key job) (matched job (packet ∷ []))) c.packets.invariant.calls c.count.ensures.calls);
     }

@@ -11,7 +11,7 @@ abbrev pub invariant-packets : goal.invariant-packets
 invariant-packets g l = let r = g.R.RegFile in let job = job_at l.live in record {
   faults : r.faults l.regs ≡ r.faults l.fn.regs;
   dims : r.dims l.regs ≡ r.dims l.fn.regs;
-  told : IsToldBefore (r.cells l.fn.regs) (r.cells l.regs);
-  cells : IfSome (r.cells l.regs) (AreCells l.live.key job (matched job (take l.at l.packets)));
-  calls : Grows (r.calls l.fn.regs) (flat_map (calls_on l.live.key job) (matched job (take (l.at - l.from) (drop l.from l.packets)))) (r.calls l.regs);
+  told : IsToldBefore (r.contents l.fn.regs) (r.contents l.regs);
+  cells : IfSome (r.contents l.regs) (AreCells l.live.hash_key job (matched job (take l.at l.packets)));
+  calls : Grows (r.calls l.fn.regs) (flat_map (calls_on l.live.hash_key job) (matched job (take (l.at - l.from) (drop l.from l.packets)))) (r.calls l.regs);
 }

@@ -6,30 +6,30 @@ use Rattle.hash_units.specs.Keys.{standard_key}
 use Rattle.flymon_engine.specs.declared.status.Status.TheVariants as statuses
 use Rattle.flymon_engine.specs.Endings.{ending_of}
 use Rattle.flymon_engine.specs.Script.{Script}
-use Rattle.flymon_engine.specs.Plan.{Carried}
-use Rattle.flymon_engine.specs.Clauses.{text_told, calls_told, status_in, IsVerdict, StopsAs, SendsText, MakesCalls, LaysOut}
+use Rattle.flymon_engine.specs.Expected.{Carried}
+use Rattle.flymon_engine.specs.Clauses.{expected_text, expected_calls, status_in, IsVerdict, StopsAs, SendsText, MakesCalls, LaysOut}
 use Rattle.flymon_engine.specs.Live.{script_at}
-use Rattle.flymon_engine.specs.Seen.{plan_seen}
+use Rattle.flymon_engine.specs.Views.{expected_view}
 use Rattle.flymon_engine.proofs.PassLemmas.{if_told}
-use Rattle.flymon_engine.proofs.ViewLemmas.{shaped_plan}
+use Rattle.flymon_engine.proofs.ViewLemmas.{shaped_geometry}
 use Rattle.flymon_engine.proofs.EndLemmas.{unshaped_calls, carried_verdict, carried_damage, carried_text, carried_calls, carried_registers, by_same, carry_stops, cause_output, cause_device}
 use Rattle.flymon_engine.proofs.top.carry.Goals as goal
 
 pub returns-in-Err-Device-clause-text : goal.returns-in-Err-Device-clause-text
 returns-in-Err-Device-clause-text g c =
     let r = g.R.RegFile in let o = g.O.Sink in
-    if_told (r.cells c.shape.new.self)
-    (none_in_part (o.sent c.args.out.now) (o.sent c.args.out.now) (text_told standard_key (plan_seen c.args.opened.now)) (omega arith)
+    if_told (r.contents c.shape.new.self)
+    (none_in_part (o.sent c.args.out.now) (o.sent c.args.out.now) (expected_text standard_key (expected_view c.args.opened.now)) (omega arith)
     (stays_same (o.sent c.args.out.now)))
 
 pub returns-in-Err-Device-clause-calls : goal.returns-in-Err-Device-clause-calls
 returns-in-Err-Device-clause-calls g c =
     let r = g.R.RegFile in
-    unshaped_calls (r.calls c.args.regs.now) (r.calls c.shape.new.self) (calls_told standard_key (plan_seen c.args.opened.now)) c.shape.ensures.calls
+    unshaped_calls (r.calls c.args.regs.now) (r.calls c.shape.new.self) (expected_calls standard_key (expected_view c.args.opened.now)) c.shape.ensures.calls
 
 pub carry_all-carried-requires-clause-shaped : goal.carry_all-carried-requires-clause-shaped
 carry_all-carried-requires-clause-shaped g c =
-    shaped_plan (g.R.RegFile.dims c.shape.new.self) c.arrays.result c.in-Ok-shape.ensures.dims c.arrays.ensures.value
+    shaped_geometry (g.R.RegFile.dims c.shape.new.self) c.arrays.result c.in-Ok-shape.ensures.dims c.arrays.ensures.value
 
 pub returns-clause-verdict : goal.returns-clause-verdict
 returns-clause-verdict g c =
@@ -38,9 +38,9 @@ returns-clause-verdict g c =
     let packets = c.args.opened.now.frames.packets.items in let fault = c.args.opened.now.frames.fault in
     let used = script_at live c.behind.result.now in
     rw c.ending.ensures
-    (by_same (λ (key : List ℕ) (script : Script). IsVerdict (Some (Carried script packets fault)) (status_in (ending_of c.carry_all-carried.result)))
-    standard_key live.key session.task live.task session.bits live.bits (drop 1 session.commands.items) c.behind.result.now
-    (c.new-live.ensures.key ∙ c.standard.ensures) c.new-live.ensures.task c.new-live.ensures.bits c.behind.ensures.behind
+    (by_same (λ (hash_key : List ℕ) (script : Script). IsVerdict (Some (Carried script packets fault)) (status_in (ending_of c.carry_all-carried.result)))
+    standard_key live.hash_key session.task live.task session.bits live.bits (drop 1 session.commands.items) c.behind.result.now
+    (c.new-live.ensures.hash_key ∙ c.standard.ensures) c.new-live.ensures.task c.new-live.ensures.bits c.behind.ensures.behind
     (carried_verdict c.carry_all-carried.result used packets fault c.carry_all-carried.ensures.fault))
 
 pub returns-clause-damage : goal.returns-clause-damage
@@ -50,9 +50,9 @@ returns-clause-damage g c =
     let packets = c.args.opened.now.frames.packets.items in let fault = c.args.opened.now.frames.fault in
     let used = script_at live c.behind.result.now in
     rw c.ending.ensures
-    (by_same (λ (key : List ℕ) (script : Script). StopsAs (Some (Carried script packets fault)) (ending_of c.carry_all-carried.result))
-    standard_key live.key session.task live.task session.bits live.bits (drop 1 session.commands.items) c.behind.result.now
-    (c.new-live.ensures.key ∙ c.standard.ensures) c.new-live.ensures.task c.new-live.ensures.bits c.behind.ensures.behind
+    (by_same (λ (hash_key : List ℕ) (script : Script). StopsAs (Some (Carried script packets fault)) (ending_of c.carry_all-carried.result))
+    standard_key live.hash_key session.task live.task session.bits live.bits (drop 1 session.commands.items) c.behind.result.now
+    (c.new-live.ensures.hash_key ∙ c.standard.ensures) c.new-live.ensures.task c.new-live.ensures.bits c.behind.ensures.behind
     (carried_damage c.carry_all-carried.result used packets fault c.carry_all-carried.ensures.fault))
 
 pub returns-clause-text : goal.returns-clause-text
@@ -62,10 +62,10 @@ returns-clause-text g c =
     let packets = c.args.opened.now.frames.packets.items in let fault = c.args.opened.now.frames.fault in
     let used = script_at live c.behind.result.now in
     rw c.ending.ensures
-    (by_same (λ (key : List ℕ) (script : Script). SendsText key (Some (Carried script packets fault)) (r.cells c.carry_all-carried.new.regs) (o.sent c.args.out.now) (status_in (ending_of c.carry_all-carried.result)) (o.sent c.carry_all-carried.new.out))
-    standard_key live.key session.task live.task session.bits live.bits (drop 1 session.commands.items) c.behind.result.now
-    (c.new-live.ensures.key ∙ c.standard.ensures) c.new-live.ensures.task c.new-live.ensures.bits c.behind.ensures.behind
-    (carried_text c.carry_all-carried.result used packets fault live.key (r.cells c.carry_all-carried.new.regs) (o.sent c.args.out.now) (o.sent c.carry_all-carried.new.out) c.carry_all-carried.ensures.sent))
+    (by_same (λ (hash_key : List ℕ) (script : Script). SendsText hash_key (Some (Carried script packets fault)) (r.contents c.carry_all-carried.new.regs) (o.sent c.args.out.now) (status_in (ending_of c.carry_all-carried.result)) (o.sent c.carry_all-carried.new.out))
+    standard_key live.hash_key session.task live.task session.bits live.bits (drop 1 session.commands.items) c.behind.result.now
+    (c.new-live.ensures.hash_key ∙ c.standard.ensures) c.new-live.ensures.task c.new-live.ensures.bits c.behind.ensures.behind
+    (carried_text c.carry_all-carried.result used packets fault live.hash_key (r.contents c.carry_all-carried.new.regs) (o.sent c.args.out.now) (o.sent c.carry_all-carried.new.out) c.carry_all-carried.ensures.sent))
 
 pub returns-clause-calls : goal.returns-clause-calls
 returns-clause-calls g c =
@@ -74,10 +74,10 @@ returns-clause-calls g c =
     let packets = c.args.opened.now.frames.packets.items in let fault = c.args.opened.now.frames.fault in
     let used = script_at live c.behind.result.now in
     rw c.ending.ensures
-    (by_same (λ (key : List ℕ) (script : Script). MakesCalls key (Some (Carried script packets fault)) (r.calls c.args.regs.now) (status_in (ending_of c.carry_all-carried.result)) (r.calls c.carry_all-carried.new.regs))
-    standard_key live.key session.task live.task session.bits live.bits (drop 1 session.commands.items) c.behind.result.now
-    (c.new-live.ensures.key ∙ c.standard.ensures) c.new-live.ensures.task c.new-live.ensures.bits c.behind.ensures.behind
-    (carried_calls c.carry_all-carried.result used packets fault live.key (r.calls c.args.regs.now) (r.calls c.shape.new.self) (r.calls c.carry_all-carried.new.regs) c.in-Ok-shape.ensures.calls c.carry_all-carried.ensures.calls))
+    (by_same (λ (hash_key : List ℕ) (script : Script). MakesCalls hash_key (Some (Carried script packets fault)) (r.calls c.args.regs.now) (status_in (ending_of c.carry_all-carried.result)) (r.calls c.carry_all-carried.new.regs))
+    standard_key live.hash_key session.task live.task session.bits live.bits (drop 1 session.commands.items) c.behind.result.now
+    (c.new-live.ensures.hash_key ∙ c.standard.ensures) c.new-live.ensures.task c.new-live.ensures.bits c.behind.ensures.behind
+    (carried_calls c.carry_all-carried.result used packets fault live.hash_key (r.calls c.args.regs.now) (r.calls c.shape.new.self) (r.calls c.carry_all-carried.new.regs) c.in-Ok-shape.ensures.calls c.carry_all-carried.ensures.calls))
 
 pub returns-clause-registers : goal.returns-clause-registers
 returns-clause-registers g c =
@@ -86,10 +86,10 @@ returns-clause-registers g c =
     let packets = c.args.opened.now.frames.packets.items in let fault = c.args.opened.now.frames.fault in
     let used = script_at live c.behind.result.now in
     rw c.ending.ensures
-    (by_same (λ (key : List ℕ) (script : Script). LaysOut key (Some (Carried script packets fault)) (status_in (ending_of c.carry_all-carried.result)) (r.cells c.carry_all-carried.new.regs))
-    standard_key live.key session.task live.task session.bits live.bits (drop 1 session.commands.items) c.behind.result.now
-    (c.new-live.ensures.key ∙ c.standard.ensures) c.new-live.ensures.task c.new-live.ensures.bits c.behind.ensures.behind
-    (carried_registers c.carry_all-carried.result used packets fault live.key (r.cells c.carry_all-carried.new.regs) c.carry_all-carried.ensures.cells))
+    (by_same (λ (hash_key : List ℕ) (script : Script). LaysOut hash_key (Some (Carried script packets fault)) (status_in (ending_of c.carry_all-carried.result)) (r.contents c.carry_all-carried.new.regs))
+    standard_key live.hash_key session.task live.task session.bits live.bits (drop 1 session.commands.items) c.behind.result.now
+    (c.new-live.ensures.hash_key ∙ c.standard.ensures) c.new-live.ensures.task c.new-live.ensures.bits c.behind.ensures.behind
+    (carried_registers c.carry_all-carried.result used packets fault live.hash_key (r.contents c.carry_all-carried.new.regs) c.carry_all-carried.ensures.contents))
 
 pub returns-clause-stop : goal.returns-clause-stop
 returns-clause-stop g c = rw c.ending.ensures (carry_stops c.carry_all-carried.result)

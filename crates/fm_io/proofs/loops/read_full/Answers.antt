@@ -1,7 +1,7 @@
 use Rattle.std.proofs.Common.{ℕ, List, take, rules, sym, subst}
 use Rattle.fm_io.specs.Slots.{slot_at, SlotMoves, Yields}
 use Rattle.fm_io.proofs.ListLemmas.{put_taken, put_left}
-use Rattle.fm_io.proofs.SlotLemmas.{slot_yields_then, others_then, shelf_then}
+use Rattle.fm_io.proofs.SlotLemmas.{slot_yields_then, others_then, directory_then}
 use Rattle.fm_io.proofs.loops.read_full.Goals as goal
 
 pub pieces-preserved : goal.pieces-preserved
@@ -17,7 +17,7 @@ pieces-preserved g c =
       later = search rules;
       last = search rules;
       strays = search rules;
-      shelf = shelf_then (f.shelf c.args.files.now) (f.shelf c.pieces.files) (f.shelf c.read.new.self) done.shelf step.shelf;
+      directory = directory_then (f.directory c.args.files.now) (f.directory c.pieces.files) (f.directory c.read.new.self) done.directory step.directory;
       slot = subst (λ (piece : List ℕ). SlotMoves (Yields piece) start after)
           (sym (put_taken c.pieces.buf c.read.new.buf c.pieces.done c.in_ok-count.count done.within))
           (slot_yields_then (take c.pieces.done c.pieces.buf) (take c.in_ok-count.count c.read.new.buf) start before after

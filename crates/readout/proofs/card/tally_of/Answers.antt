@@ -1,24 +1,24 @@
 use Rattle.std.proofs.Common.{◌≡◌, ◌<◌, ◌^◌, rules, arith}
 use Rattle.outside.proofs.ToldLemmas.{stays_same, stays_then}
 use Rattle.sketch_defs.proofs.TallyLemmas.{rank_share_le}
-use Rattle.readout.specs.Standings.{standing_at, place_at}
+use Rattle.readout.specs.PlacedTasks.{placed_task_at, place_at}
 use Rattle.readout.proofs.CardLemmas.{zeros_start, zeros_step, zeros_done, z_start, z_step, z_done, zero_share_few, rank_share_some}
 use Rattle.readout.proofs.card.tally_of.Goals as goal
 
 pub cells-init : goal.cells-init
 cells-init g c =
     let r = g.R.RegFile in let v = g.V.TaskView in
-    let place = place_at (standing_at (v.standings c.args.view.now) c.args.at) 0 in
+    let place = place_at (placed_task_at (v.tasks c.args.view.now) c.args.at) 0 in
     record {
       later = search rules;
       dims = search rules;
-      cells = stays_same (r.cells c.args.regs.now);
+      cells = stays_same (r.contents c.args.regs.now);
       calls = stays_same (r.calls c.args.regs.now);
       few = search rules;
       low = search rules;
       high = search rules;
-      zeros = zeros_start (r.cells c.args.regs.now) place;
-      z = z_start (r.cells c.args.regs.now) place;
+      zeros = zeros_start (r.contents c.args.regs.now) place;
+      z = z_start (r.contents c.args.regs.now) place;
     }
 
 pub tally_add-tally-requires-clause-zeros : goal.tally_add-tally-requires-clause-zeros
@@ -30,34 +30,34 @@ tally_add-tally-requires-clause-z g c = omega (arith, rank_share_le c.in-Ok.cell
 pub cells-preserved : goal.cells-preserved
 cells-preserved g c =
     let r = g.R.RegFile in let v = g.V.TaskView in
-    let place = place_at (standing_at (v.standings c.args.view.now) c.args.at) 0 in
+    let place = place_at (placed_task_at (v.tasks c.args.view.now) c.args.at) 0 in
     let inside : c.cells.index < 2 ^ place.region.bits = rw (← c.requires.size) c.cells-test.true in
     record {
       later = search rules;
       dims = search rules;
-      cells = stays_then (r.cells c.args.regs.now) (r.cells c.cells.regs) (r.cells c.cell.new.regs) c.cells.invariant.cells c.cell.ensures.cells;
+      cells = stays_then (r.contents c.args.regs.now) (r.contents c.cells.regs) (r.contents c.cell.new.regs) c.cells.invariant.cells c.cell.ensures.contents;
       calls = stays_then (r.calls c.args.regs.now) (r.calls c.cells.regs) (r.calls c.cell.new.regs) c.cells.invariant.calls c.cell.ensures.calls;
       few = omega (arith, zero_share_few c.in-Ok.cell, c.cells.invariant.few, c.tally_add-tally.ensures.zeros);
       low = omega (arith, rank_share_some c.in-Ok.cell, c.cells.invariant.low, c.tally_add-tally.ensures.z);
       high = omega (arith, rank_share_le c.in-Ok.cell, c.cells.invariant.high, c.tally_add-tally.ensures.z);
-      zeros = rw c.tally_add-tally.ensures.zeros (zeros_step (r.cells c.cells.regs) (r.cells c.cell.new.regs) place c.cells.tally.zeros c.cells.index c.in-Ok.cell inside
-          c.cell.ensures.cells c.cells.invariant.zeros c.in-Ok.ensures.value);
-      z = rw c.tally_add-tally.ensures.z (z_step (r.cells c.cells.regs) (r.cells c.cell.new.regs) place c.cells.tally.z c.cells.index c.in-Ok.cell inside
-          c.cell.ensures.cells c.cells.invariant.z c.in-Ok.ensures.value);
+      zeros = rw c.tally_add-tally.ensures.zeros (zeros_step (r.contents c.cells.regs) (r.contents c.cell.new.regs) place c.cells.tally.zeros c.cells.index c.in-Ok.cell inside
+          c.cell.ensures.contents c.cells.invariant.zeros c.in-Ok.ensures.value);
+      z = rw c.tally_add-tally.ensures.z (z_step (r.contents c.cells.regs) (r.contents c.cell.new.regs) place c.cells.tally.z c.cells.index c.in-Ok.cell inside
+          c.cell.ensures.contents c.cells.invariant.z c.in-Ok.ensures.value);
     }
 
 pub returns-clause-zeros : goal.returns-clause-zeros
 returns-clause-zeros g c =
     let r = g.R.RegFile in let v = g.V.TaskView in
-    let place = place_at (standing_at (v.standings c.args.view.now) c.args.at) 0 in
+    let place = place_at (placed_task_at (v.tasks c.args.view.now) c.args.at) 0 in
     let ended : c.cells.index ≡ c.args.size = omega arith in
     let all : c.cells.index ≡ 2 ^ place.region.bits = rw (← c.requires.size) ended in
-    zeros_done (r.cells c.cells.regs) place c.cells.tally.zeros c.cells.index all c.cells.invariant.zeros
+    zeros_done (r.contents c.cells.regs) place c.cells.tally.zeros c.cells.index all c.cells.invariant.zeros
 
 pub returns-clause-z : goal.returns-clause-z
 returns-clause-z g c =
     let r = g.R.RegFile in let v = g.V.TaskView in
-    let place = place_at (standing_at (v.standings c.args.view.now) c.args.at) 0 in
+    let place = place_at (placed_task_at (v.tasks c.args.view.now) c.args.at) 0 in
     let ended : c.cells.index ≡ c.args.size = omega arith in
     let all : c.cells.index ≡ 2 ^ place.region.bits = rw (← c.requires.size) ended in
-    z_done (r.cells c.cells.regs) place c.cells.tally.z c.cells.index all c.cells.invariant.z
+    z_done (r.contents c.cells.regs) place c.cells.tally.z c.cells.index all c.cells.invariant.z

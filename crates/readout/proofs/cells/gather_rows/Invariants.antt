@@ -1,6 +1,6 @@
 use Rattle.std.proofs.Common.{◌≡◌, ◌≤◌, IfSome}
 use Rattle.outside.specs.Told.{Stays}
-use Rattle.readout.specs.Standings.{standing_at}
+use Rattle.readout.specs.PlacedTasks.{placed_task_at}
 use Rattle.readout.proofs.CellLemmas.{RowsSoFar}
 use Rattle.readout.proofs.cells.gather_rows.Given as goal
 
@@ -9,8 +9,8 @@ invariant-rows g l = let r = g.R.RegFile in let s = g.S.Sink in let v = g.V.Task
   later : s.faults l.fn.sink ≤ s.faults l.sink;
   regs_later : r.faults l.fn.regs ≤ r.faults l.regs;
   dims : r.dims l.regs ≡ r.dims l.fn.regs;
-  cells : Stays (r.cells l.fn.regs) (r.cells l.regs);
+  cells : Stays (r.contents l.fn.regs) (r.contents l.regs);
   calls : Stays (r.calls l.fn.regs) (r.calls l.regs);
-  so_far : IfSome (r.cells l.regs) (RowsSoFar (s.sent l.fn.sink) l.fn.piece.bytes l.source.start l.source.side
-      (standing_at (v.standings l.view) l.source.task) l.piece.bytes l.row (s.sent l.sink));
+  so_far : IfSome (r.contents l.regs) (RowsSoFar (s.sent l.fn.sink) l.fn.piece.bytes l.source.start l.source.side
+      (placed_task_at (v.tasks l.view) l.source.task) l.piece.bytes l.row (s.sent l.sink));
 }

@@ -1,7 +1,7 @@
 use Rattle.std.proofs.Common.{◌≤◌, Ok, Err, Some, None, ℕ, ◌+◌, length, List, refl, sym, ap, ◌∙◌, arith, Option, IfSome, subst}
 use Rattle.capture_read.specs.declared.records.Frame.{Frame}
 use Rattle.std.proofs.lemmas.List.{length-drop}
-use Rattle.capture_read.specs.Records.{seen}
+use Rattle.capture_read.specs.Records.{record_view}
 use Rattle.capture_read.specs.contracts.reader.Capture.{the_view}
 use Rattle.capture_read.proofs.ReadingLemmas.{stands, ended, found_next, moves_on, handed_on}
 use Rattle.capture_read.proofs.reader.Capture.next.Goals as goal
@@ -29,7 +29,7 @@ returns-in_default g c =
     let here = the_view c.self.inside in
     let next = found_next here c.args.self.now c.rest_from-rest.result.now (Ok None) c.self.view_is c.if-self.false
     (stands c.rest_from-rest.result.now c.deref.result.now c.self.inside.bytes.items c.self.inside.at c.rest_from-rest.ensures c.deref.ensures.value)
-    (ap (λ f. seen (Ok f)) (sym c.in_default.is) ∙ c.in_ok-frame.ensures.value) in
+    (ap (λ f. record_view (Ok f)) (sym c.in_default.is) ∙ c.in_ok-frame.ensures.value) in
     ((refl, λ x. tt, moves_on here c.args.self.now (Ok None) c.self.view_is next), record { ends = tt; next = next; files = refl {a = c.args._files.now} })
 
 pub invariant_of-self-2 : goal.invariant_of-self-2
@@ -41,8 +41,8 @@ invariant_of-self-2 g c =
 pub returns : goal.returns
 returns g c =
     let here = the_view c.self.inside in
-    let found = seen (Ok (Some c.in-Some.frame)) in
+    let found = record_view (Ok (Some c.in-Some.frame)) in
     let next = found_next here c.args.self.now c.rest_from-rest.result.now found c.self.view_is c.if-self.false
     (stands c.rest_from-rest.result.now c.deref.result.now c.self.inside.bytes.items c.self.inside.at c.rest_from-rest.ensures c.deref.ensures.value)
-    (ap (λ f. seen (Ok f)) (sym c.in-Some.is) ∙ c.in_ok-frame.ensures.value) in
+    (ap (λ f. record_view (Ok f)) (sym c.in-Some.is) ∙ c.in_ok-frame.ensures.value) in
     ((refl, λ x. tt, moves_on here c.args.self.now found c.self.view_is next), record { ends = tt; next = next; files = refl {a = c.args._files.now} })

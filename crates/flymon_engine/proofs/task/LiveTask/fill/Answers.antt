@@ -19,9 +19,9 @@ rows-preserved g c =
     record {
       later = omega (arith, c.rows.invariant.later, c.fill.ensures.cause.later);
       dims = c.fill.ensures.dims ∙ c.rows.invariant.dims;
-      told = told_then (r.cells c.args.regs.now) (r.cells c.rows.regs) (r.cells c.fill.new.self) (λ x y z p q. tt) c.rows.invariant.told
-          (filled_before c.rows.row c.size.result c.start_value-start.result c.fill.result (r.cells c.rows.regs) (r.cells c.fill.new.self) c.fill.ensures.cells);
-      cells = start_told job c.rows.row c.size.result c.start_value-start.result c.fill.result (r.cells c.rows.regs) (r.cells c.fill.new.self) c.in_ok-fill.was
-          c.fill.ensures.cells (c.size.ensures ∙ live.sized) (c.start_value-start.ensures ∙ ap start_of c.kind.ensures) c.rows.invariant.cells;
+      told = told_then (r.contents c.args.regs.now) (r.contents c.rows.regs) (r.contents c.fill.new.self) (λ x y z p q. tt) c.rows.invariant.told
+          (filled_before c.rows.row c.size.result c.start_value-start.result c.fill.result (r.contents c.rows.regs) (r.contents c.fill.new.self) c.fill.ensures.contents);
+      cells = start_told job c.rows.row c.size.result c.start_value-start.result c.fill.result (r.contents c.rows.regs) (r.contents c.fill.new.self) c.in_ok-fill.was
+          c.fill.ensures.contents (c.size.ensures ∙ live.sized) (c.start_value-start.ensures ∙ ap start_of c.kind.ensures) c.rows.invariant.cells;
       calls = stays_then (r.calls c.args.regs.now) (r.calls c.rows.regs) (r.calls c.fill.new.self) c.rows.invariant.calls c.fill.ensures.calls;
     }

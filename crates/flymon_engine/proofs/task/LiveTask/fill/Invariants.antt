@@ -8,7 +8,7 @@ abbrev pub invariant-rows : goal.invariant-rows
 invariant-rows g l = let r = g.R.RegFile in record {
   later : r.faults l.fn.regs ≤ r.faults l.regs;
   dims : r.dims l.regs ≡ r.dims l.fn.regs;
-  told : IsToldBefore (r.cells l.fn.regs) (r.cells l.regs);
-  cells : IfSome (r.cells l.regs) (HoldStart (job_at l.self) l.row);
+  told : IsToldBefore (r.contents l.fn.regs) (r.contents l.regs);
+  cells : IfSome (r.contents l.regs) (HoldStart (job_at l.self) l.row);
   calls : Stays (r.calls l.fn.regs) (r.calls l.regs);
 }

@@ -13,15 +13,15 @@ rmw-requires g c = let few = c.args.self.now.few in
 pub returns-clause-cells : goal.returns-clause-cells
 returns-clause-cells g c =
     let r = g.R.RegFile in let live = c.args.self.now in let job = job_at live in let packet = c.args.packet.now in
-    touched live.key job c.args.row packet c.index.result c.rmw.result c.operation-made.result (r.cells c.args.regs.now) (r.cells c.rmw.new.self)
-    (touch_place live.key job c.args.row packet c.args.h c.row_hash-of_row.result c.index.result c.requires.hash c.row_hash-of_row.ensures c.index.ensures.value)
-    (touch_operation live.key job c.args.row packet c.args.h c.row_hash-of_row.result live.micro c.operation-made.result c.requires.hash c.row_hash-of_row.ensures live.lowered c.operation-made.ensures)
-    c.rmw.ensures.cells
+    touched live.hash_key job c.args.row packet c.index.result c.rmw.result c.operation-made.result (r.contents c.args.regs.now) (r.contents c.rmw.new.self)
+    (touch_place live.hash_key job c.args.row packet c.args.h c.row_hash-of_row.result c.index.result c.requires.hash c.row_hash-of_row.ensures c.index.ensures.value)
+    (touch_operation live.hash_key job c.args.row packet c.args.h c.row_hash-of_row.result live.micro c.operation-made.result c.requires.hash c.row_hash-of_row.ensures live.lowered c.operation-made.ensures)
+    c.rmw.ensures.contents
 
 pub returns-clause-calls : goal.returns-clause-calls
 returns-clause-calls g c =
     let r = g.R.RegFile in let live = c.args.self.now in let job = job_at live in let packet = c.args.packet.now in
-    touched_call live.key job c.args.row packet c.index.result c.operation-made.result (r.calls c.args.regs.now) (r.calls c.rmw.new.self)
-    (touch_place live.key job c.args.row packet c.args.h c.row_hash-of_row.result c.index.result c.requires.hash c.row_hash-of_row.ensures c.index.ensures.value)
-    (touch_operation live.key job c.args.row packet c.args.h c.row_hash-of_row.result live.micro c.operation-made.result c.requires.hash c.row_hash-of_row.ensures live.lowered c.operation-made.ensures)
+    touched_call live.hash_key job c.args.row packet c.index.result c.operation-made.result (r.calls c.args.regs.now) (r.calls c.rmw.new.self)
+    (touch_place live.hash_key job c.args.row packet c.args.h c.row_hash-of_row.result c.index.result c.requires.hash c.row_hash-of_row.ensures c.index.ensures.value)
+    (touch_operation live.hash_key job c.args.row packet c.args.h c.row_hash-of_row.result live.micro c.operation-made.result c.requires.hash c.row_hash-of_row.ensures live.lowered c.operation-made.ensures)
     c.rmw.ensures.calls

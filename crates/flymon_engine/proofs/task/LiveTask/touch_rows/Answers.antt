@@ -10,9 +10,9 @@ rows-preserved g c =
     record {
       faults = c.touch.ensures.faults ∙ c.rows.invariant.faults;
       dims = c.touch.ensures.dims ∙ c.rows.invariant.dims;
-      told = told_then (r.cells c.args.regs.now) (r.cells c.rows.regs) (r.cells c.touch.new.regs) (λ x y z p q. tt) c.rows.invariant.told
-          (touched_before live.key job c.rows.row packet (r.cells c.rows.regs) (r.cells c.touch.new.regs) c.touch.ensures.cells);
-      cells = passed_told live.key job packet c.rows.row (r.cells c.args.regs.now) (r.cells c.rows.regs) (r.cells c.touch.new.regs) c.touch.ensures.cells
+      told = told_then (r.contents c.args.regs.now) (r.contents c.rows.regs) (r.contents c.touch.new.regs) (λ x y z p q. tt) c.rows.invariant.told
+          (touched_before live.hash_key job c.rows.row packet (r.contents c.rows.regs) (r.contents c.touch.new.regs) c.touch.ensures.contents);
+      cells = passed_told live.hash_key job packet c.rows.row (r.contents c.args.regs.now) (r.contents c.rows.regs) (r.contents c.touch.new.regs) c.touch.ensures.contents
           (omega (arith, most)) live.closed (omega (arith, c.rows-test.true, c.rows-row-end.ensures.value)) c.rows.invariant.cells;
-      calls = calls_more_row live.key job packet c.rows.row (r.calls c.args.regs.now) (r.calls c.rows.regs) (r.calls c.touch.new.regs) c.rows.invariant.calls c.touch.ensures.calls;
+      calls = calls_more_row live.hash_key job packet c.rows.row (r.calls c.args.regs.now) (r.calls c.rows.regs) (r.calls c.touch.new.regs) c.rows.invariant.calls c.touch.ensures.calls;
     }

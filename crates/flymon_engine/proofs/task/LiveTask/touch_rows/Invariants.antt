@@ -12,8 +12,8 @@ abbrev pub invariant-rows : goal.invariant-rows
 invariant-rows g l = let r = g.R.RegFile in record {
   faults : r.faults l.regs ≡ r.faults l.fn.regs;
   dims : r.dims l.regs ≡ r.dims l.fn.regs;
-  told : IsToldBefore (r.cells l.fn.regs) (r.cells l.regs);
-  cells : (past : List Packet) → IfSome (r.cells l.fn.regs) (AreCells l.self.key (job_at l.self) past)
-      → IfSome (r.cells l.regs) (ArePassed l.self.key (job_at l.self) past l.packet l.row);
-  calls : Grows (r.calls l.fn.regs) (map (call_on l.self.key (job_at l.self) l.packet) (range_with_len 0 l.row)) (r.calls l.regs);
+  told : IsToldBefore (r.contents l.fn.regs) (r.contents l.regs);
+  cells : (counted_packets : List Packet) → IfSome (r.contents l.fn.regs) (AreCells l.self.hash_key (job_at l.self) counted_packets)
+      → IfSome (r.contents l.regs) (ArePassed l.self.hash_key (job_at l.self) counted_packets l.packet l.row);
+  calls : Grows (r.calls l.fn.regs) (map (call_on l.self.hash_key (job_at l.self) l.packet) (range_with_len 0 l.row)) (r.calls l.regs);
 }

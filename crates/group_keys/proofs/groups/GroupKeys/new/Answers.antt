@@ -1,4 +1,4 @@
-use Rattle.group_keys.proofs.PlaceLemmas.{first_units}
+use Rattle.group_keys.proofs.SlotLemmas.{first_units}
 use Rattle.group_keys.proofs.groups.GroupKeys.new.Goals as goal
 
 pub returns : goal.returns

@@ -1,6 +1,6 @@
 use Rattle.std.proofs.Common.{length, ap, arith}
 use Rattle.group_keys.specs.Units.{served}
-use Rattle.group_keys.proofs.PlaceLemmas.{places_set, unit_changed}
+use Rattle.group_keys.proofs.SlotLemmas.{places_set, unit_changed}
 use Rattle.group_keys.proofs.groups.GroupKeys.serve_unit.Goals as goal
 
 pub invariant_of-self : goal.invariant_of-self

@@ -3,15 +3,15 @@ ghost use Rattle.std.specs.Prelude.{◌≡◌, ℕ, ◌≤◌, List, Option, Res
 ghost use Rattle.outside.specs.Faults.{Rose};
 ghost use Rattle.outside.specs.Told.{Stays};
 ghost use Rattle.pkt_headers.specs.declared.packets.Packet.{Packet};
-ghost use Rattle.reg_file.specs.Registers.{Cells};
-ghost use Rattle.readout.specs.Standings.{Standing, IsShaped};
+ghost use Rattle.reg_file.specs.Registers.{Contents};
+ghost use Rattle.readout.specs.PlacedTasks.{PlacedTask, IsShaped};
 ghost use Rattle.readout.specs.Judging.{IsJudged, SendsJudged};
 ghost use Rattle.sketch_defs.specs.Cells.{cells_of};
-ghost use Rattle.flymon_engine.specs.Cells.{AreCells, default_plan};
-ghost use Rattle.flymon_engine.specs.Carrying.{HasCause, SendsBy, told_by, halt_of};
+ghost use Rattle.flymon_engine.specs.Cells.{AreCells, default_geometry};
+ghost use Rattle.flymon_engine.specs.Carrying.{HaltHasCause, SendsBy, reply_over, halt_of};
 ghost use Rattle.flymon_engine.specs.Live.{job_at};
 ghost use Rattle.flymon_engine.specs.Script.{is_served};
-ghost use Rattle.flymon_engine.specs.Steps.{State, asked_for, lines_of, side_word, read_text, query_text, dist_text, card_text};
+ghost use Rattle.flymon_engine.specs.Steps.{State, asked_for, lines_of, side_verb, read_text, query_text, dist_text, card_text};
 
 use crate::lines::{line_refused, send};
 use crate::stop::Halt;
@@ -24,7 +24,7 @@ use task_filters::Filter;
 use task_lang::Command;
 
 /// Tells what the command asks of the task of its name.
-pub(crate) fn tell<R: RegFile, O: Sink>(
+pub(crate) fn read_out<R: RegFile, O: Sink>(
     live: &LiveTask,
     command: &Command,
     reader: &mut Readout,
@@ -33,24 +33,24 @@ pub(crate) fn tell<R: RegFile, O: Sink>(
 ) -> Result<(), Halt>
     requires served { is_served command.now ≡ true }
     requires told { asked_for command.now ≡ None }
-    requires shaped { IsShaped default_plan (R.dims regs.old) }
+    requires shaped { IsShaped default_geometry (R.dims regs.old) }
     requires room { live.now.bits ≤ reader.old }
     ensures room { reader.new ≡ reader.old }
     ensures later { O.faults out.old ≤ O.faults out.new }
     ensures regs_later { R.faults regs.old ≤ R.faults regs.new }
-    ensures cause { IfErr result (HasCause (O.faults out.old) (O.faults out.new) (R.faults regs.old) (R.faults regs.new) None) }
+    ensures cause { IfErr result (HaltHasCause (O.faults out.old) (O.faults out.new) (R.faults regs.old) (R.faults regs.new) None) }
     ensures dims { R.dims regs.new ≡ R.dims regs.old }
-    ensures cells { Stays (R.cells regs.old) (R.cells regs.new) }
+    ensures contents { Stays (R.contents regs.old) (R.contents regs.new) }
     ensures calls { Stays (R.calls regs.old) (R.calls regs.new) }
-    ensures sent { (state : State) → IfSome (R.cells regs.old) (AreCells live.now.key (job_at live.now) state.past)
-        → IfSome (R.cells regs.new) (λ _. SendsBy (O.sent out.old) (lines_of live.now.key (job_at live.now) state command.now) result (O.sent out.new)) }
+    ensures sent { (state : State) → IfSome (R.contents regs.old) (AreCells live.now.hash_key (job_at live.now) state.counted_packets)
+        → IfSome (R.contents regs.new) (λ _. SendsBy (O.sent out.old) (lines_of live.now.hash_key (job_at live.now) state command.now) result (O.sent out.new)) }
 {
     match command {
-        Command::Read(name) => tell_cells(live, name, Side::Live, reader, regs, out),
-        Command::Frozen(name) => tell_cells(live, name, Side::Frozen, reader, regs, out),
-        Command::Query { name, at } => tell_answer(live, name, at, reader, regs, out),
-        Command::Dist(name) => tell_sizes(live, name, reader, regs, out),
-        Command::Card(name) => tell_cardinality(live, name, reader, regs, out),
+        Command::Read(name) => read_out_cells(live, name, Side::Live, reader, regs, out),
+        Command::Frozen(name) => read_out_cells(live, name, Side::Frozen, reader, regs, out),
+        Command::Query { name, at } => read_out_query(live, name, at, reader, regs, out),
+        Command::Dist(name) => read_out_dist(live, name, reader, regs, out),
+        Command::Card(name) => read_out_card(live, name, reader, regs, out),
         Command::Add(_)
         | Command::Resize { .. }
         | Command::Remove(_)
@@ -63,7 +63,7 @@ pub(crate) fn tell<R: RegFile, O: Sink>(
 }
 
 /// Tells the cells of the task of this name, in its live partitions or in frozen ones.
-fn tell_cells<R: RegFile, O: Sink>(
+fn read_out_cells<R: RegFile, O: Sink>(
     live: &LiveTask,
     name: &Name,
     side: Side,
@@ -71,23 +71,23 @@ fn tell_cells<R: RegFile, O: Sink>(
     regs: &mut R,
     out: &mut O,
 ) -> Result<(), Halt>
-    requires shaped { IsShaped default_plan (R.dims regs.old) }
+    requires shaped { IsShaped default_geometry (R.dims regs.old) }
     ensures later { O.faults out.old ≤ O.faults out.new }
     ensures regs_later { R.faults regs.old ≤ R.faults regs.new }
-    ensures cause { IfErr result (HasCause (O.faults out.old) (O.faults out.new) (R.faults regs.old) (R.faults regs.new) None) }
+    ensures cause { IfErr result (HaltHasCause (O.faults out.old) (O.faults out.new) (R.faults regs.old) (R.faults regs.new) None) }
     ensures dims { R.dims regs.new ≡ R.dims regs.old }
-    ensures cells { Stays (R.cells regs.old) (R.cells regs.new) }
+    ensures contents { Stays (R.contents regs.old) (R.contents regs.new) }
     ensures calls { Stays (R.calls regs.old) (R.calls regs.new) }
-    ensures sent { (past : List Packet) → IfSome (R.cells regs.old) (AreCells live.now.key (job_at live.now) past)
-        → IfSome (R.cells regs.new) (λ _. SendsBy (O.sent out.old)
-        (read_text name.now side (job_at live.now) (cells_of live.now.key live.now.task live.now.bits past)) result (O.sent out.new)) }
+    ensures sent { (counted_packets : List Packet) → IfSome (R.contents regs.old) (AreCells live.now.hash_key (job_at live.now) counted_packets)
+        → IfSome (R.contents regs.new) (λ _. SendsBy (O.sent out.old)
+        (read_text name.now side (job_at live.now) (cells_of live.now.hash_key live.now.task live.now.bits counted_packets)) result (O.sent out.new)) }
 {
     let answer = reader.cells(live, regs, name, side, out);
-    settle(answer, side_word(side), name, out)
+    settle(answer, side_verb(side), name, out)
 }
 
 /// Tells what the task of this name answers for a key value.
-fn tell_answer<R: RegFile, O: Sink>(
+fn read_out_query<R: RegFile, O: Sink>(
     live: &LiveTask,
     name: &Name,
     at: &Filter,
@@ -95,64 +95,64 @@ fn tell_answer<R: RegFile, O: Sink>(
     regs: &mut R,
     out: &mut O,
 ) -> Result<(), Halt>
-    requires shaped { IsShaped default_plan (R.dims regs.old) }
+    requires shaped { IsShaped default_geometry (R.dims regs.old) }
     ensures later { O.faults out.old ≤ O.faults out.new }
     ensures regs_later { R.faults regs.old ≤ R.faults regs.new }
-    ensures cause { IfErr result (HasCause (O.faults out.old) (O.faults out.new) (R.faults regs.old) (R.faults regs.new) None) }
+    ensures cause { IfErr result (HaltHasCause (O.faults out.old) (O.faults out.new) (R.faults regs.old) (R.faults regs.new) None) }
     ensures dims { R.dims regs.new ≡ R.dims regs.old }
-    ensures cells { Stays (R.cells regs.old) (R.cells regs.new) }
+    ensures contents { Stays (R.contents regs.old) (R.contents regs.new) }
     ensures calls { Stays (R.calls regs.old) (R.calls regs.new) }
-    ensures sent { (past : List Packet) → IfSome (R.cells regs.old) (AreCells live.now.key (job_at live.now) past)
-        → IfSome (R.cells regs.new) (λ _. SendsBy (O.sent out.old)
-        (query_text live.now.key name.now at.now (job_at live.now) (cells_of live.now.key live.now.task live.now.bits past)) result (O.sent out.new)) }
+    ensures sent { (counted_packets : List Packet) → IfSome (R.contents regs.old) (AreCells live.now.hash_key (job_at live.now) counted_packets)
+        → IfSome (R.contents regs.new) (λ _. SendsBy (O.sent out.old)
+        (query_text live.now.hash_key name.now at.now (job_at live.now) (cells_of live.now.hash_key live.now.task live.now.bits counted_packets)) result (O.sent out.new)) }
 {
-    let answer = reader.query(live, regs, &live.key, name, at, out);
+    let answer = reader.query(live, regs, &live.hash_key, name, at, out);
     settle(answer, "query", name, out)
 }
 
 /// Tells how many cells of the task of this name have each value.
-fn tell_sizes<R: RegFile, O: Sink>(
+fn read_out_dist<R: RegFile, O: Sink>(
     live: &LiveTask,
     name: &Name,
     reader: &mut Readout,
     regs: &mut R,
     out: &mut O,
 ) -> Result<(), Halt>
-    requires shaped { IsShaped default_plan (R.dims regs.old) }
+    requires shaped { IsShaped default_geometry (R.dims regs.old) }
     requires room { live.now.bits ≤ reader.old }
     ensures later { O.faults out.old ≤ O.faults out.new }
     ensures regs_later { R.faults regs.old ≤ R.faults regs.new }
-    ensures cause { IfErr result (HasCause (O.faults out.old) (O.faults out.new) (R.faults regs.old) (R.faults regs.new) None) }
+    ensures cause { IfErr result (HaltHasCause (O.faults out.old) (O.faults out.new) (R.faults regs.old) (R.faults regs.new) None) }
     ensures dims { R.dims regs.new ≡ R.dims regs.old }
-    ensures cells { Stays (R.cells regs.old) (R.cells regs.new) }
+    ensures contents { Stays (R.contents regs.old) (R.contents regs.new) }
     ensures calls { Stays (R.calls regs.old) (R.calls regs.new) }
-    ensures sent { (past : List Packet) → IfSome (R.cells regs.old) (AreCells live.now.key (job_at live.now) past)
-        → IfSome (R.cells regs.new) (λ _. SendsBy (O.sent out.old)
-        (dist_text name.now (job_at live.now) (cells_of live.now.key live.now.task live.now.bits past)) result (O.sent out.new)) }
+    ensures sent { (counted_packets : List Packet) → IfSome (R.contents regs.old) (AreCells live.now.hash_key (job_at live.now) counted_packets)
+        → IfSome (R.contents regs.new) (λ _. SendsBy (O.sent out.old)
+        (dist_text name.now (job_at live.now) (cells_of live.now.hash_key live.now.task live.now.bits counted_packets)) result (O.sent out.new)) }
     ensures room { reader.new ≡ reader.old }
 {
     let answer = reader.dist(live, regs, name, out);
     settle(answer, "dist", name, out)
 }
 
-/// Tells how many keys the task of this name saw, as far as its cells tell.
-fn tell_cardinality<R: RegFile, O: Sink>(
+/// Tells how many keys the task of this name saw, as far as its cells read_out.
+fn read_out_card<R: RegFile, O: Sink>(
     live: &LiveTask,
     name: &Name,
     reader: &Readout,
     regs: &mut R,
     out: &mut O,
 ) -> Result<(), Halt>
-    requires shaped { IsShaped default_plan (R.dims regs.old) }
+    requires shaped { IsShaped default_geometry (R.dims regs.old) }
     ensures later { O.faults out.old ≤ O.faults out.new }
     ensures regs_later { R.faults regs.old ≤ R.faults regs.new }
-    ensures cause { IfErr result (HasCause (O.faults out.old) (O.faults out.new) (R.faults regs.old) (R.faults regs.new) None) }
+    ensures cause { IfErr result (HaltHasCause (O.faults out.old) (O.faults out.new) (R.faults regs.old) (R.faults regs.new) None) }
     ensures dims { R.dims regs.new ≡ R.dims regs.old }
-    ensures cells { Stays (R.cells regs.old) (R.cells regs.new) }
+    ensures contents { Stays (R.contents regs.old) (R.contents regs.new) }
     ensures calls { Stays (R.calls regs.old) (R.calls regs.new) }
-    ensures sent { (past : List Packet) → IfSome (R.cells regs.old) (AreCells live.now.key (job_at live.now) past)
-        → IfSome (R.cells regs.new) (λ _. SendsBy (O.sent out.old)
-        (card_text name.now (job_at live.now) (cells_of live.now.key live.now.task live.now.bits past)) result (O.sent out.new)) }
+    ensures sent { (counted_packets : List Packet) → IfSome (R.contents regs.old) (AreCells live.now.hash_key (job_at live.now) counted_packets)
+        → IfSome (R.contents regs.new) (λ _. SendsBy (O.sent out.old)
+        (card_text name.now (job_at live.now) (cells_of live.now.hash_key live.now.task live.now.bits counted_packets)) result (O.sent out.new)) }
 {
     let answer = reader.card(live, regs, name, out);
     settle(answer, "card", name, out)
@@ -170,10 +170,10 @@ fn settle<O: Sink>(
     ensures cause { (before regs_before regs_now : ℕ) → before ≤ O.faults out.old
         → (IsErrOf answer ReadFault.Device → Rose regs_before regs_now)
         → (IsErrOf answer ReadFault.Write → Rose before (O.faults out.old))
-        → IfErr result (HasCause before (O.faults out.new) regs_before regs_now None) }
-    ensures sent { (lines : Standing → Cells → List ℕ) (judged : Result Standing ReadFault) (cells : Option Cells) (before : Option (List ℕ))
+        → IfErr result (HaltHasCause before (O.faults out.new) regs_before regs_now None) }
+    ensures sent { (lines : PlacedTask → Contents → List ℕ) (judged : Result PlacedTask ReadFault) (cells : Option Contents) (before : Option (List ℕ))
         → IsJudged judged answer → SendsJudged lines judged cells before answer (O.sent out.old)
-        → IfSome cells (λ told. SendsBy before (told_by word.now name.now (λ standing. lines standing told) judged) result (O.sent out.new)) }
+        → IfSome cells (λ told. SendsBy before (reply_over word.now name.now (λ placed. lines placed told) judged) result (O.sent out.new)) }
 {
     match answer {
         Ok(()) => Ok(()),
@@ -196,8 +196,8 @@ fn halt_of(fault: ReadFault) -> Option<Halt>
 }
 
 /// The word of a read-out of cells.
-fn side_word(side: Side) -> &'static str
-    ensures text { result.now ≡ side_word side }
+fn side_verb(side: Side) -> &'static str
+    ensures text { result.now ≡ side_verb side }
     ensures short { length result.now ≤ 10 }
 {
     match side {

@@ -9,7 +9,7 @@ pub record Group : Type 0 where
   pub bits : ℕ
 
 -- the groups in order; an array has at most 2 ^ split partitions
-pub record Plan : Type 0 where
+pub record Geometry : Type 0 where
   pub groups : List Group
   pub split : ℕ
 
@@ -23,31 +23,31 @@ pub record IsGroup (group : Group) : Type 0 where
   pub most_bits : group.bits ≤ MOST_BITS
 
 -- the numbers of all groups are in the limits
-pub record IsPlan (plan : Plan) : Type 0 where
-  pub some_groups : 1 ≤ length plan.groups
-  pub few_groups : length plan.groups ≤ MOST_GROUPS
-  pub each : All IsGroup plan.groups
-  pub split_is : plan.split ≡ SPLIT
+pub record IsGeometry (geometry : Geometry) : Type 0 where
+  pub some_groups : 1 ≤ length geometry.groups
+  pub few_groups : length geometry.groups ≤ MOST_GROUPS
+  pub each : All IsGroup geometry.groups
+  pub split_is : geometry.split ≡ SPLIT
 
 -- equal groups
-abbrev pub equal_plan : ℕ → Group → Plan
-equal_plan count group = record { groups = replicate count group; split = SPLIT }
+abbrev pub equal_geometry : ℕ → Group → Geometry
+equal_geometry count group = record { groups = replicate count group; split = SPLIT }
 
 -- what stands where there is no group
 abbrev pub no_group : Group
 no_group = record { cmus = 0; units = 0; bits = 0 }
 
--- a group of the plan, by its number
-abbrev pub group_in : Plan → ℕ → Group
-group_in plan group = get_or plan.groups group no_group
+-- a group of the geometry, by its number
+abbrev pub group_in : Geometry → ℕ → Group
+group_in geometry group = get_or geometry.groups group no_group
 
 -- how many arrays there are
-abbrev pub array_count : Plan → ℕ
-array_count plan = sum_by (λ g. g.cmus) plan.groups
+abbrev pub array_count : Geometry → ℕ
+array_count geometry = sum_by (λ g. g.cmus) geometry.groups
 
 -- how many arrays stand in the groups before this one
-abbrev pub arrays_before : Plan → ℕ → ℕ
-arrays_before plan group = sum_by (λ g. g.cmus) (take group plan.groups)
+abbrev pub arrays_before : Geometry → ℕ → ℕ
+arrays_before geometry group = sum_by (λ g. g.cmus) (take group geometry.groups)
 
 -- how many groups end before the array, where arrays are numbered through the groups in order
 unfoldable pub groups_ended : List Group → ℕ → ℕ
@@ -55,17 +55,17 @@ groups_ended [] array = 0
 groups_ended (g ∷ gs) array = if nat_lt array g.cmus then 0 else suc (groups_ended gs (array - g.cmus))
 
 -- the group in which an array stands
-abbrev pub group_number : Plan → ℕ → ℕ
-group_number plan array = groups_ended plan.groups array
+abbrev pub group_number : Geometry → ℕ → ℕ
+group_number geometry array = groups_ended geometry.groups array
 
 -- the CMU of that group which has the array
-abbrev pub cmu_number : Plan → ℕ → ℕ
-cmu_number plan array = array - arrays_before plan (group_number plan array)
+abbrev pub cmu_number : Geometry → ℕ → ℕ
+cmu_number geometry array = array - arrays_before geometry (group_number geometry array)
 
 -- the array has 2 to this many registers
-abbrev pub bits_of : Plan → ℕ → ℕ
-bits_of plan array = (group_in plan (group_number plan array)).bits
+abbrev pub bits_of : Geometry → ℕ → ℕ
+bits_of geometry array = (group_in geometry (group_number geometry array)).bits
 
 -- the smallest partition of the array has 2 to this many registers
-abbrev pub least_bits_of : Plan → ℕ → ℕ
-least_bits_of plan array = bits_of plan array - plan.split
+abbrev pub least_bits_of : Geometry → ℕ → ℕ
+least_bits_of geometry array = bits_of geometry array - geometry.split

@@ -6,13 +6,13 @@ use Rattle.hash_units.specs.Toeplitz.{bit_of, rho_of}
 use Rattle.stateful_ops.specs.declared.ops.Op.{Op}
 use Rattle.stateful_ops.specs.declared.ops.Op.TheVariants as ops
 use Rattle.stateful_ops.specs.Ops.{register_max}
-use Rattle.match_table.specs.declared.micros.Code.{Code}
-use Rattle.match_table.specs.declared.micros.Code.TheVariants.{CondAdd, Max, And, Or}
-use Rattle.match_table.specs.declared.micros.First.{First}
-use Rattle.match_table.specs.declared.micros.First.TheVariants.{Weight, Bit, Rho}
-use Rattle.match_table.specs.declared.micros.Second.{Second}
-use Rattle.match_table.specs.declared.micros.Second.TheVariants.{Top, Carry}
-use Rattle.match_table.specs.declared.micros.Micro.{Micro}
+use Rattle.match_table.specs.declared.operations.Code.{Code}
+use Rattle.match_table.specs.declared.operations.Code.TheVariants.{CondAdd, Max, And, Or}
+use Rattle.match_table.specs.declared.operations.First.{First}
+use Rattle.match_table.specs.declared.operations.First.TheVariants.{Weight, Bit, Rho}
+use Rattle.match_table.specs.declared.operations.Second.{Second}
+use Rattle.match_table.specs.declared.operations.Second.TheVariants.{Top, Carry}
+use Rattle.match_table.specs.declared.operations.Micro.{Micro}
 
 -- the first number, where h is the row's hash and the region has 2 ^ bits registers
 abbrev pub first_by : First → ℕ → ℕ → Packet → ℕ

@@ -1,6 +1,6 @@
 use Rattle.std.proofs.Common.{sym, ◌∙◌}
-use Rattle.flymon_engine.proofs.TellLemmas.{settled_halt, settled_refused}
-use Rattle.flymon_engine.proofs.telling.settle.Goals as goal
+use Rattle.flymon_engine.proofs.ReadingOutLemmas.{settled_halt, settled_refused}
+use Rattle.flymon_engine.proofs.reading_out.settle.Goals as goal
 
 pub returns-in-Some-clause-sent : goal.returns-in-Some-clause-sent
 returns-in-Some-clause-sent g c lines judged cells before is sends =

@@ -1,12 +1,12 @@
 use Rattle.std.proofs.Common.{arith}
 use Rattle.readout.specs.declared.views.Side.TheVariants.{Live}
 use Rattle.readout.specs.Judging.{judged_card, line_of_card}
-use Rattle.readout.specs.Standings.{Standing, live_bits, rows_told}
+use Rattle.readout.specs.PlacedTasks.{PlacedTask, live_bits, rows_contents}
 use Rattle.flymon_engine.specs.Live.{job_at}
 use Rattle.flymon_engine.specs.Steps.{live_of}
-use Rattle.flymon_engine.proofs.TellLemmas.{card_sent}
+use Rattle.flymon_engine.proofs.ReadingOutLemmas.{card_sent}
 use Rattle.flymon_engine.proofs.ViewLemmas.{fit}
-use Rattle.flymon_engine.proofs.telling.tell_cardinality.Goals as goal
+use Rattle.flymon_engine.proofs.reading_out.read_out_card.Goals as goal
 
 pub card-answer-requires-clause-fit : goal.card-answer-requires-clause-fit
 card-answer-requires-clause-fit g c = let live = c.args.live.now in fit (job_at live) live.some live.few live.least live.most live.sized
@@ -18,8 +18,8 @@ returns-clause-cause g c =
     c.card-answer.ensures.device c.card-answer.ensures.write
 
 pub returns-clause-sent : goal.returns-clause-sent
-returns-clause-sent g c past are =
+returns-clause-sent g c counted_packets are =
     let r = g.R.RegFile in let o = g.O.Sink in let live = c.args.live.now in let job = job_at live in let most = live.most in
-    card_sent live.key job c.args.name.now (r.cells c.args.regs.now) (r.cells c.card-answer.new.regs) (o.sent c.args.out.now) (o.sent c.settle.new.out) c.settle.result past
-    live.some (omega (arith, most)) c.card-answer.ensures.cells are
-    (c.settle.ensures.sent (λ (standing : Standing) told. line_of_card (live_bits standing) standing.task (rows_told told Live standing)) (judged_card (live_of job c.args.name.now)) (r.cells c.card-answer.new.regs) (o.sent c.args.out.now) c.card-answer.ensures.verdict c.card-answer.ensures.sent)
+    card_sent live.hash_key job c.args.name.now (r.contents c.args.regs.now) (r.contents c.card-answer.new.regs) (o.sent c.args.out.now) (o.sent c.settle.new.out) c.settle.result counted_packets
+    live.some (omega (arith, most)) c.card-answer.ensures.contents are
+    (c.settle.ensures.sent (λ (placed : PlacedTask) told. line_of_card (live_bits placed) placed.task (rows_contents told Live placed)) (judged_card (live_of job c.args.name.now)) (r.contents c.card-answer.new.regs) (o.sent c.args.out.now) c.card-answer.ensures.verdict c.card-answer.ensures.sent)

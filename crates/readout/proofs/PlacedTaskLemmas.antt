@@ -5,7 +5,7 @@ use Rattle.std.proofs.lemmas.List.Folds.{find_at}
 use Rattle.std.proofs.lemmas.Bool.{cond_both, false≢true}
 use Rattle.std.proofs.lemmas.Bool.Decides.{nat_tests}
 use Rattle.addr_translate.specs.Blocks.{Block}
-use Rattle.addr_translate.specs.Plans.{Plan}
+use Rattle.addr_translate.specs.Geometry.{Geometry}
 use Rattle.sketch_defs.specs.declared.kinds.Kind.{Kind}
 use Rattle.sketch_defs.specs.declared.kinds.Kind.TheVariants.{Cms, SumaxSum, SumaxMax, Bloom, Mrac, Hll, FlagOr, FlagAnd}
 use Rattle.sketch_defs.specs.declared.tasks.TaskFault.{TaskFault}
@@ -13,7 +13,7 @@ use Rattle.sketch_defs.specs.declared.tasks.TaskFault.TheVariants as faults
 use Rattle.sketch_defs.specs.Tasks.{Sketch, first_fault, allows_rows, most_rows}
 use Rattle.readout.specs.declared.views.Side.{Side}
 use Rattle.readout.specs.declared.views.Side.TheVariants.{Live, Frozen}
-use Rattle.readout.specs.Standings.{Standing, standing_at, place_at, is_named, found_in, live_bits, frozen_bits, HasSide, block_of, IsPlaced, IsStanding, IsFit, no_standing, no_place}
+use Rattle.readout.specs.PlacedTasks.{PlacedTask, placed_task_at, place_at, is_named, task_named, live_bits, frozen_bits, HasSide, block_of, IsPlaced, IsPlacedTask, IsFit, no_placed_task, no_place}
 use Rattle.readout.specs.Judging.{side_size, frozen_size}
 use Rattle.sketch_defs.proofs.NameLemmas.{both_true}
 
@@ -35,16 +35,16 @@ get_where xs i d = cond_both (nat_lt i (length xs)) (Some i) None (λ o. slice_g
     (λ e. get_inside xs i d (grind (arith, nat_tests, e)))
     (λ e. get_outside xs i (grind (arith, nat_tests, e)))
 
-pub found_at : (name : List ℕ) (standings : List Standing)
-    → found_in name standings ≡ option_map (standing_at standings) (position (is_named name) standings)
-found_at name standings =
-    find_at (is_named name) standings ∙ get_where standings (position_or_len (is_named name) standings) no_standing
+pub found_at : (name : List ℕ) (tasks : List PlacedTask)
+    → task_named name tasks ≡ option_map (placed_task_at tasks) (position (is_named name) tasks)
+found_at name tasks =
+    find_at (is_named name) tasks ∙ get_where tasks (position_or_len (is_named name) tasks) no_placed_task
 
 below_where : (i n : ℕ) → IfSome (cond (nat_lt i n) (Some i) None) (λ at. at < n)
 below_where i n = cond_both (nat_lt i n) (Some i) None (λ o. IfSome o (λ at. at < n)) (λ e. grind (arith, nat_tests, e)) (λ e. tt)
 
-pub found_below : (name : List ℕ) (standings : List Standing) → IfSome (position (is_named name) standings) (λ at. at < length standings)
-found_below name standings = below_where (position_or_len (is_named name) standings) (length standings)
+pub found_below : (name : List ℕ) (tasks : List PlacedTask) → IfSome (position (is_named name) tasks) (λ at. at < length tasks)
+found_below name tasks = below_where (position_or_len (is_named name) tasks) (length tasks)
 
 -- ---- rows
 
@@ -80,17 +80,17 @@ few_rows task sound = omega (arith, (rows_allowed task sound).1, most_few task.k
 
 -- ---- what a fit task has
 
-standing_fit : (plan : Plan) (standings : List Standing) (at : ℕ) → IsFit plan standings → at < length standings → IsStanding plan (standing_at standings at)
-standing_fit plan standings at fit below = fit at no_standing below
+placed_task_fit : (geometry : Geometry) (tasks : List PlacedTask) (at : ℕ) → IsFit geometry tasks → at < length tasks → IsPlacedTask geometry (placed_task_at tasks at)
+placed_task_fit geometry tasks at fit below = fit at no_placed_task below
 
-pub rows_placed : (plan : Plan) (standings : List Standing) (at : ℕ) → IsFit plan standings → at < length standings
-    → length (standing_at standings at).places ≡ (standing_at standings at).task.rows
-rows_placed plan standings at fit below = (standing_fit plan standings at fit below).rows
+pub rows_placed : (geometry : Geometry) (tasks : List PlacedTask) (at : ℕ) → IsFit geometry tasks → at < length tasks
+    → length (placed_task_at tasks at).places ≡ (placed_task_at tasks at).task.rows
+rows_placed geometry tasks at fit below = (placed_task_fit geometry tasks at fit below).rows
 
-pub row_placed : (plan : Plan) (standings : List Standing) (at row : ℕ) → IsFit plan standings → at < length standings
-    → row < length (standing_at standings at).places
-    → IsPlaced plan (live_bits (standing_at standings at)) (frozen_bits (standing_at standings at)) (place_at (standing_at standings at) row)
-row_placed plan standings at row fit below inside = (standing_fit plan standings at fit below).places row no_place inside
+pub row_placed : (geometry : Geometry) (tasks : List PlacedTask) (at row : ℕ) → IsFit geometry tasks → at < length tasks
+    → row < length (placed_task_at tasks at).places
+    → IsPlaced geometry (live_bits (placed_task_at tasks at)) (frozen_bits (placed_task_at tasks at)) (place_at (placed_task_at tasks at) row)
+row_placed geometry tasks at row fit below inside = (placed_task_fit geometry tasks at fit below).places row no_place inside
 
 frozen_part : (frozen : Option Block) (region : Block) → is_some (option_map (λ (block : Block). block.bits) frozen) ≡ true
     → 2 ^ (unwrap_or frozen region).bits ≡ frozen_size (option_map (λ (block : Block). block.bits) frozen)
@@ -98,18 +98,18 @@ frozen_part None region e = absurd (false≢true e)
 frozen_part (Some block) region e = refl
 
 -- the partition of the first row has the size of the side
-pub size_of_side : (plan : Plan) (standings : List Standing) (at : ℕ) (side : Side) → IsFit plan standings → at < length standings
-    → HasSide side (standing_at standings at)
-    → 2 ^ (block_of side (place_at (standing_at standings at) 0)).bits ≡ side_size side (standing_at standings at)
-size_of_side plan standings at Live fit below has = sym (standing_fit plan standings at fit below).size
-size_of_side plan standings at Frozen fit below has =
-    let place = place_at (standing_at standings at) 0 in frozen_part place.frozen place.region has
+pub size_of_side : (geometry : Geometry) (tasks : List PlacedTask) (at : ℕ) (side : Side) → IsFit geometry tasks → at < length tasks
+    → HasSide side (placed_task_at tasks at)
+    → 2 ^ (block_of side (place_at (placed_task_at tasks at) 0)).bits ≡ side_size side (placed_task_at tasks at)
+size_of_side geometry tasks at Live fit below has = sym (placed_task_fit geometry tasks at fit below).size
+size_of_side geometry tasks at Frozen fit below has =
+    let place = place_at (placed_task_at tasks at) 0 in frozen_part place.frozen place.region has
 
 -- a task has a frozen side where its first row has a frozen partition
 pub bits_where_frozen : (frozen : Option Block) → is_some (option_map (λ (block : Block). block.bits) frozen) ≡ is_some frozen
 bits_where_frozen None = refl
 bits_where_frozen (Some block) = refl
 
-pub ranks_bits : (plan : Plan) (standings : List Standing) (at : ℕ) → IsFit plan standings → at < length standings
-    → (standing_at standings at).task.kind ≡ Hll → 4 ≤ live_bits (standing_at standings at)
-ranks_bits plan standings at fit below is = (standing_fit plan standings at fit below).ranks is
+pub ranks_bits : (geometry : Geometry) (tasks : List PlacedTask) (at : ℕ) → IsFit geometry tasks → at < length tasks
+    → (placed_task_at tasks at).task.kind ≡ Hll → 4 ≤ live_bits (placed_task_at tasks at)
+ranks_bits geometry tasks at fit below is = (placed_task_fit geometry tasks at fit below).ranks is

@@ -1,7 +1,7 @@
 //! The operation that an entry makes for a packet.
 ghost use Rattle.std.specs.Prelude.{◌≡◌, ◌≤◌};
-ghost use Rattle.match_table.specs.Micros.{first_by, coded, operation_by};
-ghost use Rattle.match_table.specs.declared.micros.Second.TheVariants.{Top};
+ghost use Rattle.match_table.specs.Operations.{first_by, coded, operation_by};
+ghost use Rattle.match_table.specs.declared.operations.Second.TheVariants.{Top};
 ghost use Rattle.sketch_defs.specs.Cells.{cell_max};
 
 use hash_units::{bit, rho};
