@@ -2,7 +2,7 @@
 use Rattle.std.proofs.Common.{◌≡◌, ◌-◌, ◌^◌, [], ◌∷◌, map, refl}
 use Rattle.std.specs.List.{range_with_len}
 use Rattle.addr_translate.specs.Blocks.{index_of}
-use Rattle.addr_translate.specs.Geometry.{Geometry, equal_geometry, array_count, arrays_before, groups_ended, group_number, cmu_number, bits_of, least_bits_of}
+use Rattle.addr_translate.specs.Geometry.{Geometry, equal_geometry, array_count, arrays_before, groups_ended, group_number, cmu_number, bits_of, greatest_bits, least_bits_of}
 
 -- the hash of 10.0.0.1 in regions of 32 and 16 registers
 of_32 : index_of 0x919d5c4a 5 ≡ 18
@@ -17,9 +17,10 @@ no_bits = refl
 all_20 : index_of 0xffff_ffff 20 ≡ 2 ^ 20 - 1
 all_20 = refl
 
--- 3 groups of 3 CMUs, each array with 1,024 registers
+-- ---- 3 groups of 3 CMUs, each array with 1,024 registers
+
 abbrev three : Geometry
-three = equal_geometry 3 (record { cmus = 3; units = 3; bits = 10 })
+three = equal_geometry 3 (record { cmus = 3; units = 3; bits = 10 }) 5
 
 nine_arrays : array_count three ≡ 9
 nine_arrays = refl
@@ -39,7 +40,11 @@ least_of_last : least_bits_of three 8 ≡ 5
 unfolding groups_ended
 least_of_last = refl
 
--- groups that differ: 2 CMUs, 1 CMU and 3 CMUs
+greatest_of_three : greatest_bits three ≡ 10
+greatest_of_three = refl
+
+-- ---- groups that differ: 2 CMUs, 1 CMU and 3 CMUs
+
 abbrev uneven : Geometry
 uneven = record {
   groups = record { cmus = 2; units = 1; bits = 5 } ∷ record { cmus = 1; units = 4; bits = 16 } ∷ record { cmus = 3; units = 2; bits = 8 } ∷ [];
@@ -57,6 +62,9 @@ cmus_of_uneven = refl
 bits_of_uneven : map (bits_of uneven) (range_with_len 0 6) ≡ 5 ∷ 5 ∷ 16 ∷ 8 ∷ 8 ∷ 8 ∷ []
 unfolding groups_ended
 bits_of_uneven = refl
+
+greatest_of_uneven : greatest_bits uneven ≡ 16
+greatest_of_uneven = refl
 
 -- no partition has less than one register
 least_of_uneven : map (least_bits_of uneven) (range_with_len 0 6) ≡ 0 ∷ 0 ∷ 6 ∷ 0 ∷ 0 ∷ 0 ∷ []

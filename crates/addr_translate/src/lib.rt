@@ -6,6 +6,4 @@ mod regions;
 mod shapes;
 
 pub use regions::{Region, address, index};
-pub use shapes::{
-    LEAST_BITS, MOST_ARRAYS, MOST_BITS, MOST_CMUS, MOST_GROUPS, MOST_UNITS, SPLIT, Shape,
-};
+pub use shapes::{GroupShape, MOST_GROUPS, Shape};

@@ -1,6 +1,6 @@
 //! A region is an aligned run of registers, a power of two of them.
 ghost use Rattle.std.specs.Prelude.{◌≡◌, ◌+◌, ◌^◌, ◌<◌, ◌≤◌};
-ghost use Rattle.addr_translate.specs.Blocks.{index_of};
+ghost use Rattle.addr_translate.specs.Blocks.{index_of, IsAligned};
 
 use std::marker::Model;
 
@@ -40,6 +40,7 @@ pub fn address(region: Region, h: u32) -> u32
     ensures place { result ≡ region.base + index_of h region.bits }
     ensures from_base { region.base ≤ result }
     ensures below_end { result < region.base + 2 ^ region.bits }
+    ensures kept { IsAligned region.base region.bits }
 {
     region.base + index(h, region.bits)
 }
