@@ -6,7 +6,7 @@ mod reader;
 mod records;
 
 pub use reader::{BeginFail, Capture};
-pub use records::{CaptureFault, Frame, Order, frame_in, order_in};
+pub use records::{CaptureFault, Frame};
 
 #[cfg(test)]
 mod tests;

@@ -6,7 +6,7 @@ use byteorder::{BigEndian, ByteOrder, LittleEndian};
 
 /// The order of the bytes of a capture's numbers.
 #[derive(Clone, Copy, Debug, PartialEq, Eq)]
-pub enum Order {
+pub(crate) enum Order {
     Big,
     Little,
 }
@@ -81,7 +81,7 @@ fn byte_order_in(bytes: &[u8]) -> Option<Order>
 
 /// The byte order of a capture, from its header.
 #[tactic(auto, using(std::proofs::lemmas::Bool::Decides::nat_tests), unfolding(crate::specs::Records::header_in))]
-pub fn order_in(bytes: &[u8]) -> Result<Order, CaptureFault>
+pub(crate) fn order_in(bytes: &[u8]) -> Result<Order, CaptureFault>
     ensures value { result ≡ header_in bytes.now }
     ensures room { OnOk result (24 ≤ length bytes.now) }
 {
@@ -101,7 +101,7 @@ pub fn order_in(bytes: &[u8]) -> Result<Order, CaptureFault>
 
 /// The record with which `rest` begins, at this offset in the file; None where nothing is left.
 #[tactic(auto, using(std::proofs::lemmas::Bool::Decides::nat_tests), unfolding(crate::specs::Records::record_in))]
-pub fn frame_in(order: Order, offset: u64, rest: &[u8]) -> Result<Option<Frame<'_>>, CaptureFault>
+pub(crate) fn frame_in(order: Order, offset: u64, rest: &[u8]) -> Result<Option<Frame<'_>>, CaptureFault>
     ensures value { record_view result ≡ record_in order offset rest.now }
     ensures room { IfOk result (λ found. IfSome found (λ frame. 16 + length frame.bytes.now ≤ length rest.now)) }
 {

@@ -1,4 +1,5 @@
 use super::*;
+use crate::records::{Order, frame_in, order_in};
 use fm_io::{Files, MemFile, MemFiles};
 use std::alloc::{AllocError, Global};
 use std::test::Fail;

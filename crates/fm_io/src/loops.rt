@@ -45,6 +45,7 @@ pub fn read_full<F: Files>(files: &mut F, slot: usize, buf: &mut [u8]) -> Result
     ensures others { OthersStay slot (F.slots files.old) (F.slots files.new) }
     ensures count { IfOk result (λ n. n ≤ length buf.old) }
     ensures end { IfOk result (λ n. n < length buf.old → IfSome (slot_at (F.slots files.new) slot).cursor IsAtEnd) }
+    ensures some { OnErr result (0 < length buf.old) }
     ensures rest { IfOk result (λ n. drop n buf.new ≡ drop n buf.old) }
 {
     let mut done = 0;

@@ -1,11 +1,13 @@
 //! Files of the file system: the trusted edge, which tells no bytes.
-ghost use Rattle.std.specs.Prelude.{◌≡◌, ◌≤◌, length, drop, is_some, IfSome, IsSome};
-ghost use Rattle.fm_io.specs.Names.{untold_directory};
-ghost use Rattle.fm_io.specs.Slots.{untold};
+ghost use Rattle.std.specs.Prelude.{◌≡◌, ◌<◌, ◌≤◌, true, length, take, drop, IfSome, IfOk, MatchResult};
+ghost use Rattle.outside.specs.Faults.{HasCause, faults_after};
+ghost use Rattle.fm_io.specs.Names.{DirectoryStays, CountsStray};
+ghost use Rattle.fm_io.specs.Slots.{slot_at, SlotMoves, SlotStays, OthersStay, Attaches, Yields, IsAtEnd, last_failed};
 
+use crate::readers::Readers;
 use crate::traits::{Failed, Files};
 use std::alloc::Global;
-use std::io::{BufRead, BufReader};
+use std::io::BufReader;
 use std::{fs, rt};
 
 /// How many bytes of a file are read ahead.
@@ -18,11 +20,7 @@ const READ_AHEAD: usize = 65_536;
 pub struct RealFiles<R: rt::Files + Drop> {
     runtime: R,
     alloc: Global,
-    profile: Option<BufReader<R::File>>,
-    script: Option<BufReader<R::File>>,
-    capture: Option<BufReader<R::File>>,
-    faults: u64,
-    last: usize,
+    readers: Readers<BufReader<R::File>>,
 }
 
 impl<R: rt::Files + Drop> RealFiles<R> {
@@ -30,11 +28,7 @@ impl<R: rt::Files + Drop> RealFiles<R> {
         RealFiles {
             runtime,
             alloc,
-            profile: None,
-            script: None,
-            capture: None,
-            faults: 0,
-            last: 0,
+            readers: Readers::new(),
         }
     }
 }
@@ -44,58 +38,54 @@ fn open<R: rt::Files>(runtime: &R, alloc: Global, name: &str) -> Option<BufReade
     BufReader::with_capacity(alloc, READ_AHEAD, file).ok()
 }
 
-/// Reads the next bytes into the front of `buf`.
-fn read_next<B: BufRead>(reader: &mut Option<B>, buf: &mut [u8]) -> Option<usize>
-    ensures stays { is_some reader.new ≡ is_some reader.old }
-    ensures count { IfSome result (λ n. n ≤ length buf.old) }
-    ensures rest { IfSome result (λ n. drop n buf.new ≡ drop n buf.old) }
-{
-    let Some(reader) = reader else { return None };
-    let next = reader.fill_buf().ok()?;
-    let count = next.len().min(buf.len());
-    buf[..count].copy_from_slice(&next[..count]);
-    reader.consume(count);
-    Some(count)
-}
-
 impl<R: rt::Files + Drop> Files for RealFiles<R> {
-    ghost faults = { λ f. f.faults };
+    ghost use Rattle.fm_io.specs.RealFiles.{faults_of, last_of, strays_of, directory_of, slots_of};
 
-    ghost last = { λ f. f.last };
+    ghost faults = { faults_of };
 
-    ghost strays = { λ _. 0 };
+    ghost last = { last_of };
 
-    ghost directory = { λ _. untold_directory };
+    ghost strays = { strays_of };
 
-    ghost slots = { λ f. record { profile = untold (is_some f.profile); script = untold (is_some f.script); capture = untold (is_some f.capture) } };
+    ghost directory = { directory_of };
 
-    fn attach(&mut self, slot: usize, name: &str) -> Result<(), Failed> {
-        let reader = open(&self.runtime, self.alloc, name);
-        let opened = reader.is_some();
-        match slot {
-            0 => self.profile = reader,
-            1 => self.script = reader,
-            _ => self.capture = reader,
-        }
-        if !opened {
-            self.faults = self.faults.saturating_add(1);
-            self.last = slot;
-            return Err(Failed);
-        }
-        Ok(())
+    ghost slots = { slots_of };
+
+    fn attach(&mut self, slot: usize, name: &str) -> Result<(), Failed>
+        requires { slot < 3 }
+        ensures cause { HasCause (faults_of self.old) (faults_of self.new) result }
+        ensures last { last_of self.new ≡ last_failed slot (last_of self.old) result }
+        ensures strays { CountsStray (directory_of self.new).names name.now result (strays_of self.old) (strays_of self.new) }
+        ensures directory { DirectoryStays (directory_of self.old) (directory_of self.new) }
+        ensures slot { Attaches ((directory_of self.new).text name.now) result (slot_at (slots_of self.new) slot) }
+        ensures others { OthersStay slot (slots_of self.old) (slots_of self.new) }
+
+        // The count of faults rises in no other call.
+        ensures exact { faults_of self.new ≡ faults_after result (faults_of self.old) }
+    {
+        self.readers
+            .put(slot, open(&self.runtime, self.alloc, name))
     }
 
-    fn read(&mut self, slot: usize, buf: &mut [u8]) -> Result<usize, Failed> {
-        let count = match slot {
-            0 => read_next(&mut self.profile, buf),
-            1 => read_next(&mut self.script, buf),
-            _ => read_next(&mut self.capture, buf),
-        };
-        let Some(count) = count else {
-            self.faults = self.faults.saturating_add(1);
-            self.last = slot;
-            return Err(Failed);
-        };
-        Ok(count)
+    fn read(&mut self, slot: usize, buf: &mut [u8]) -> Result<usize, Failed>
+        requires slot { slot < 3 }
+        requires attached { (slot_at (slots_of self.old) slot).attached ≡ true }
+        requires room { 0 < length buf.old }
+        ensures cause { HasCause (faults_of self.old) (faults_of self.new) result }
+        ensures last { last_of self.new ≡ last_failed slot (last_of self.old) result }
+        ensures strays { strays_of self.new ≡ strays_of self.old }
+        ensures directory { DirectoryStays (directory_of self.old) (directory_of self.new) }
+        ensures slot { MatchResult result
+            (λ n. SlotMoves (Yields (take n buf.new)) (slot_at (slots_of self.old) slot) (slot_at (slots_of self.new) slot))
+            (λ _. SlotStays (slot_at (slots_of self.old) slot) (slot_at (slots_of self.new) slot)) }
+        ensures others { OthersStay slot (slots_of self.old) (slots_of self.new) }
+        ensures count { IfOk result (λ n. n ≤ length buf.old) }
+        ensures end { IfOk result (λ n. n ≡ 0 → IfSome (slot_at (slots_of self.new) slot).cursor IsAtEnd) }
+        ensures rest { IfOk result (λ n. drop n buf.new ≡ drop n buf.old) }
+
+        // The count of faults rises in no other call.
+        ensures exact { faults_of self.new ≡ faults_after result (faults_of self.old) }
+    {
+        self.readers.read(slot, buf)
     }
 }

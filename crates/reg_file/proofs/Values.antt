@@ -1,10 +1,9 @@
--- Worked values: the register at a place, the calls that are told, the calls that fail.
-use Rattle.std.proofs.Common.{◌≡◌, ℕ, ◌-◌, ◌^◌, List, [], ◌∷◌, None, Some, true, false, refl}
+-- Worked values: the register at a place and the calls that are told.
+use Rattle.std.proofs.Common.{◌≡◌, ℕ, List, [], ◌∷◌, None, Some, refl}
 use Rattle.stateful_ops.specs.declared.ops.Op.TheVariants.{Or}
 use Rattle.reg_file.specs.declared.traits.Call.{Call}
 use Rattle.reg_file.specs.Words.{flat}
 use Rattle.reg_file.specs.Log.{Log, first_log, told_calls, log_after, log_shaped}
-use Rattle.reg_file.specs.Schedule.{Schedule, first_schedule, fails_next, schedule_after}
 
 -- two arrays of two registers
 abbrev two_arrays : List ℕ
@@ -42,27 +41,3 @@ second_lost = refl
 
 lost_for_good : told_calls (log_shaped (log_after (log_after none_made call) call)) ≡ None
 lost_for_good = refl
-
--- the second call fails
-abbrev second_fails : Schedule
-second_fails = first_schedule (2 ∷ [])
-
-first_call : fails_next second_fails ≡ false
-first_call = refl
-
-second_call : fails_next (schedule_after second_fails) ≡ true
-second_call = refl
-
-second_counted : schedule_after (schedule_after second_fails)
-    ≡ record { failing = 2 ∷ []; turn = 2; faults = 1 }
-second_counted = refl
-
-third_call : fails_next (schedule_after (schedule_after second_fails)) ≡ false
-third_call = refl
-
--- both counters stand still at their last value
-abbrev at_the_end : Schedule
-at_the_end = record { failing = (2 ^ 64 - 1) ∷ []; turn = 2 ^ 64 - 1; faults = 2 ^ 64 - 1 }
-
-stays_at_the_end : schedule_after at_the_end ≡ at_the_end
-stays_at_the_end = refl

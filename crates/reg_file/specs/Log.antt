@@ -1,7 +1,7 @@
 -- A list of calls that is told while there is room.
 use Rattle.std.specs.Prelude.{ℕ, List, [], ◌∷◌, ◌++◌, Option, None, Some, nat_lt, nat_le, if◌then◌else◌}
 use Rattle.reg_file.specs.declared.traits.Call.{Call}
-use Rattle.reg_file.specs.Counter.{count_after}
+use Rattle.outside.specs.Faults.{count_after}
 
 -- how many calls may be told, how many were made, and those since the last shape
 pub record Log : Type 0 where

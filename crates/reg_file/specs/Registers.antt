@@ -12,6 +12,13 @@ pub record Dims : Type 0 where
   pub arrays : ℕ
   pub bits : ℕ
 
+-- how many arrays a file may be given, and how many bits of an address
+pub record IsShape (arrays bits : ℕ) : Type 0 where
+  pub some : 1 ≤ arrays
+  pub most_arrays : arrays ≤ 48
+  pub least_bits : 5 ≤ bits
+  pub most_bits : bits ≤ 20
+
 -- what `shape` leaves: a file that it refused has no arrays
 abbrev pub shaped_dims : {T E : Type 0} → ℕ → ℕ → Result T E → Dims
 shaped_dims arrays bits (Ok x) = record { arrays = arrays; bits = bits }

@@ -1,9 +1,9 @@
 -- What clauses see of a `TraceFile` besides its registers.
+use Rattle.outside.specs.Schedule.{Schedule}
 use Rattle.reg_file.specs.declared.trace.TraceFile.{TraceFile}
 use Rattle.reg_file.specs.Registers.{Contents, Dims}
 use Rattle.reg_file.specs.RamFile.{ram_dims, ram_contents}
 use Rattle.reg_file.specs.Log.{Log}
-use Rattle.reg_file.specs.Schedule.{Schedule}
 
 abbrev pub trace_dims : TraceFile → Dims
 trace_dims file = ram_dims file.file

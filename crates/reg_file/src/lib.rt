@@ -2,7 +2,6 @@
 #![tactic(auto)]
 
 mod call_log;
-mod fault_schedule;
 mod ram;
 #[cfg(test)]
 mod tests;
@@ -13,4 +12,6 @@ mod words;
 pub use ram::RamFile;
 pub use std::alloc::AllocError as OutOfMemory;
 pub use trace::TraceFile;
-pub use traits::{Call, DeviceFault, RegFile, ShapeFail};
+pub use traits::{
+    Call, DeviceFault, LEAST_BITS, MOST_ARRAYS, MOST_BITS, RegFile, ShapeFail, is_shape,
+};

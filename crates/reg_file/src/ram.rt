@@ -46,7 +46,7 @@ impl RamFile {
 }
 
 impl RegFile for RamFile {
-    ghost use Rattle.reg_file.specs.Registers.{shaped_dims, InFile, InRange, AreZero, MakesCall, MakesFill};
+    ghost use Rattle.reg_file.specs.Registers.{IsShape, shaped_dims, InFile, InRange, AreZero, MakesCall, MakesFill};
     ghost use Rattle.reg_file.specs.RamFile.{ram_dims, ram_contents};
 
     ghost faults = { λ _. 0 };
@@ -58,10 +58,7 @@ impl RegFile for RamFile {
     ghost calls = { λ _. None };
 
     fn shape(&mut self, alloc: Global, arrays: u32, bits: u32) -> Result<(), ShapeFail>
-        requires some { 1 ≤ arrays }
-        requires most { arrays ≤ 48 }
-        requires least_bits { 5 ≤ bits }
-        requires most_bits { bits ≤ 16 }
+        requires { IsShape arrays bits }
         ensures dims { ram_dims self.new ≡ shaped_dims arrays bits result }
         ensures contents { AreZero (ram_contents self.new) }
         ensures memory { IsOkUnless result ShapeFail.Memory }

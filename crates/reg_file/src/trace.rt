@@ -2,15 +2,15 @@
 ghost use Rattle.std.specs.Prelude.{◌≡◌, ◌<◌, ◌≤◌, ◌↔◌, [], ◌∷◌, Some, IsTrue, IsNone, IsErr, IsErrOf, IfOk, IsSomeAnd};
 ghost use Rattle.std.specs.Option.{option_copied};
 ghost use Rattle.outside.specs.Told.{Grows};
+ghost use Rattle.outside.specs.Schedule.{first_schedule, fails_next, schedule_after};
 ghost use Rattle.reg_file.specs.declared.traits.Call.{Call};
 ghost use Rattle.reg_file.specs.Log.{first_log, told_calls, log_after, log_shaped};
-ghost use Rattle.reg_file.specs.Schedule.{first_schedule, fails_next, schedule_after};
 
 use crate::OutOfMemory;
 use crate::call_log::CallLog;
-use crate::fault_schedule::FaultSchedule;
 use crate::ram::RamFile;
 use crate::traits::{Call, DeviceFault, RegFile, ShapeFail};
+use outside::FaultSchedule;
 use stateful_ops::Op;
 use std::alloc::Global;
 
@@ -57,7 +57,7 @@ impl TraceFile {
 }
 
 impl RegFile for TraceFile {
-    ghost use Rattle.reg_file.specs.Registers.{shaped_dims, InFile, InRange, AreZero, MakesCall, MakesFill};
+    ghost use Rattle.reg_file.specs.Registers.{IsShape, shaped_dims, InFile, InRange, AreZero, MakesCall, MakesFill};
     ghost use Rattle.reg_file.specs.TraceFile.{trace_dims, trace_contents, log_of, schedule_of};
 
     ghost faults = { λ file. (schedule_of file).faults };
@@ -69,20 +69,17 @@ impl RegFile for TraceFile {
     ghost calls = { λ file. told_calls (log_of file) };
 
     fn shape(&mut self, alloc: Global, arrays: u32, bits: u32) -> Result<(), ShapeFail>
-        requires some { 1 ≤ arrays }
-        requires most { arrays ≤ 48 }
-        requires least_bits { 5 ≤ bits }
-        requires most_bits { bits ≤ 16 }
+        requires { IsShape arrays bits }
         ensures later { (schedule_of self.old).faults ≤ (schedule_of self.new).faults }
         ensures dims { trace_dims self.new ≡ shaped_dims arrays bits result }
         ensures contents { AreZero (trace_contents self.new) }
         ensures log { log_of self.new ≡ log_shaped (log_of self.old) }
-        ensures schedule { schedule_of self.new ≡ schedule_after (schedule_of self.old) }
+        ensures schedule { schedule_of self.new ≡ schedule_after (fails_next (schedule_of self.old)) (schedule_of self.old) }
         ensures fails { IsErrOf result ShapeFail.Device
             ↔ IsTrue (fails_next (schedule_of self.old)) }
     {
         self.log.clear();
-        if self.schedule.next_fails() {
+        if self.schedule.next_fails(false) {
             self.file = RamFile::without_arrays(bits);
             return Err(ShapeFail::Device);
         }
@@ -111,10 +108,10 @@ impl RegFile for TraceFile {
         ensures contents { trace_contents self.new ≡ trace_contents self.old }
         ensures value { IfOk result (λ value. value ≡ trace_contents self.new array addr) }
         ensures log { log_of self.new ≡ log_of self.old }
-        ensures schedule { schedule_of self.new ≡ schedule_after (schedule_of self.old) }
+        ensures schedule { schedule_of self.new ≡ schedule_after (fails_next (schedule_of self.old)) (schedule_of self.old) }
         ensures fails { IsErr result ↔ IsTrue (fails_next (schedule_of self.old)) }
     {
-        if self.schedule.next_fails() {
+        if self.schedule.next_fails(false) {
             return Err(DeviceFault);
         }
         self.file.read(array, addr)
@@ -127,10 +124,10 @@ impl RegFile for TraceFile {
         ensures contents { MakesFill array base len value result
             (trace_contents self.old) (trace_contents self.new) }
         ensures log { log_of self.new ≡ log_of self.old }
-        ensures schedule { schedule_of self.new ≡ schedule_after (schedule_of self.old) }
+        ensures schedule { schedule_of self.new ≡ schedule_after (fails_next (schedule_of self.old)) (schedule_of self.old) }
         ensures fails { IsErr result ↔ IsTrue (fails_next (schedule_of self.old)) }
     {
-        if self.schedule.next_fails() {
+        if self.schedule.next_fails(false) {
             return Err(DeviceFault);
         }
         self.file.fill(array, base, len, value)

@@ -1,12 +1,28 @@
 //! The trait, whose clauses are all that a run knows of registers.
-ghost use Rattle.std.specs.Prelude.{◌≡◌, ℕ, ◌≤◌, [], ◌∷◌, List, Option, IfSome, IfOk, OnOk, OnErr, IsErrOf};
+ghost use Rattle.std.specs.Prelude.{◌≡◌, ℕ, ◌≤◌, [], ◌∷◌, List, Option, IsTrue, ◌↔◌, IfSome, IfOk, OnOk, OnErr, IsErrOf};
 ghost use Rattle.outside.specs.Faults.{Rose, HasCause};
 ghost use Rattle.outside.specs.Told.{Told, Stays, Grows};
 ghost use Rattle.reg_file.specs.declared.traits.Call.{Call};
-ghost use Rattle.reg_file.specs.Registers.{Contents, Dims, shaped_dims, InFile, InRange, AreZero, MakesCall, MakesFill};
+ghost use Rattle.reg_file.specs.Registers.{Contents, Dims, IsShape, shaped_dims, InFile, InRange, AreZero, MakesCall, MakesFill};
 
 use stateful_ops::Op;
 use std::alloc::Global;
+
+/// The most arrays that a file may be given.
+pub const MOST_ARRAYS: u32 = 48;
+
+/// The least bits of an address.
+pub const LEAST_BITS: u32 = 5;
+
+/// The most bits of an address.
+pub const MOST_BITS: u32 = 20;
+
+/// Whether a file may be given this shape.
+pub fn is_shape(arrays: u32, bits: u32) -> bool
+    ensures { IsTrue result ↔ IsShape arrays bits }
+{
+    (1..=MOST_ARRAYS).contains(&arrays) && (LEAST_BITS..=MOST_BITS).contains(&bits)
+}
 
 /// Why a file got no shape.
 #[derive(Clone, Copy, Debug, PartialEq, Eq)]
@@ -39,10 +55,7 @@ pub trait RegFile {
 
     /// Makes `arrays` arrays of `2^bits` registers, all 0, and forgets all that was there.
     fn shape(&mut self, alloc: Global, arrays: u32, bits: u32) -> Result<(), ShapeFail>
-        requires some { 1 ≤ arrays }
-        requires most { arrays ≤ 48 }
-        requires least_bits { 5 ≤ bits }
-        requires most_bits { bits ≤ 16 }
+        requires { IsShape arrays bits }
         ensures later { faults self.old ≤ faults self.new }
         ensures device { IsErrOf result ShapeFail.Device → Rose (faults self.old) (faults self.new) }
         ensures dims { dims self.new ≡ shaped_dims arrays bits result }
