@@ -1,35 +1,28 @@
 -- The units of a group stand in slots, of which the last may be empty.
-use Rattle.std.proofs.Common.{◌≡◌, ℕ, ◌+◌, ◌-◌, ◌<◌, ◌≤◌, List, ◌++◌, length, take, set, replicate, get_or, Option, None, ap, ap₂, sym, ◌∙◌, arith, length-append}
+use Rattle.std.proofs.Common.{◌≡◌, ℕ, ◌-◌, ◌<◌, ◌≤◌, List, ◌++◌, length, take, set, replicate, get_or, Option, None, ap, ap₂, sym, ◌∙◌, arith}
 use Rattle.std.proofs.Math.Seq.{take-set-lt}
-use Rattle.std.proofs.lemmas.List.{length-take, get_or_default, get_or-take, length-set, set-append_left, length-replicate, take-replicate}
-use Rattle.group_keys.specs.Units.{UsedUnit, in_slots, AreInSlots, unit_at}
-
--- there are as many slots as there may be units
-pub places_all : (slots : List (Option UsedUnit)) (count : ℕ) → AreInSlots slots count → length slots ≡ 4
-places_all slots count h =
-    let all : length slots ≡ length (take count slots) + (4 - length (take count slots)) =
-    ap length h.filled ∙ length-append (take count slots) (replicate (4 - length (take count slots)) None)
-    ∙ ap (λ n. length (take count slots) + n) (length-replicate (4 - length (take count slots)) None) in
-    omega (arith, all, length-take count slots, h.few)
+use Rattle.std.proofs.lemmas.List.{length-take, get_or_default, get_or-take, length-set, set-append_left, take-replicate}
+use Rattle.group_keys.specs.Units.{UsedUnit, in_slots, AreInSlots, AreSound, unit_at}
 
 -- the units after a change of one
 pub units_set : (slots : List (Option UsedUnit)) (count at : ℕ) (unit : Option UsedUnit) → at < length (take count slots)
     → take count (set slots at unit) ≡ set (take count slots) at unit
 units_set slots count at unit within = take-set-lt count slots at unit (omega (arith, within, length-take count slots))
 
-pub set_in_places : (units : List (Option UsedUnit)) (at : ℕ) (unit : Option UsedUnit) → at < length units
+pub set_in_slots : (units : List (Option UsedUnit)) (at : ℕ) (unit : Option UsedUnit) → at < length units
     → set (in_slots units) at unit ≡ in_slots (set units at unit)
-set_in_places units at unit within =
+set_in_slots units at unit within =
     set-append_left units (replicate (4 - length units) None) at unit within
     ∙ ap (λ n. set units at unit ++ replicate (4 - n) None) (sym (length-set units at unit))
 
-pub places_set : (slots : List (Option UsedUnit)) (count at : ℕ) (unit : Option UsedUnit) → at < length (take count slots)
-    → AreInSlots slots count → AreInSlots (set slots at unit) count
-places_set slots count at unit within h = record {
+pub slots_set : (slots : List (Option UsedUnit)) (count at : ℕ) (unit : Option UsedUnit) → at < length (take count slots)
+    → AreSound (take count (set slots at unit)) → AreInSlots slots count → AreInSlots (set slots at unit) count
+slots_set slots count at unit within sound h = record {
   few = h.few;
   counted = ap length (units_set slots count at unit within) ∙ length-set (take count slots) at unit ∙ h.counted;
-  filled = ap (λ all. set all at unit) h.filled ∙ set_in_places (take count slots) at unit within
+  filled = ap (λ all. set all at unit) h.filled ∙ set_in_slots (take count slots) at unit within
       ∙ ap in_slots (sym (units_set slots count at unit within));
+  sound = sound;
 }
 
 -- a change of one unit, made in its place

@@ -1,11 +1,11 @@
 //! The units of one group, by their numbers.
-ghost use Rattle.std.specs.Prelude.{◌≡◌, ◌≢◌, ◌<◌, ◌≤◌, IfSome, MatchOption, None, replicate, length, position};
+ghost use Rattle.std.specs.Prelude.{◌≡◌, ◌≢◌, ◌↔◌, ◌<◌, ◌≤◌, IfSome, IsTrue, MatchOption, None, Some, replicate, length};
 ghost use Rattle.std.specs.List.{All};
 ghost use Rattle.key_mask.specs.Keys.{no_lengths};
-ghost use Rattle.group_keys.specs.declared.uses.KeyUse.TheVariants.{Single};
-ghost use Rattle.group_keys.specs.Units.{unit_at, has_mask, is_free, HasRoom, mask_of, keys_for, served_at, served_units, freed_at, freed_units, AreUnits, AreInUse};
+ghost use Rattle.group_keys.specs.Units.{unit_at, AreSound, HasRoom, mask_of, keys_for, served_at, served_units, freed_at, freed_units, AreUnits, AreInUse};
 
-use crate::units::{Unit, is_unused, is_with, with_use, without_use};
+use crate::finds::keys_among;
+use crate::units::{Unit, has_room, with_use, without_use};
 use crate::uses::KeyUse;
 use key_mask::Mask;
 use std::marker::Model;
@@ -16,7 +16,8 @@ pub const MOST_UNITS: u32 = 4;
 /// How many slots for units there are.
 const SLOTS: usize = MOST_UNITS as usize;
 
-/// The units of a group, by their numbers, each free or in use with a mask.
+/// The units of a group, by their numbers, each free or in use with a mask. A unit in use has at
+/// least one use and a mask that is not empty, and no two have one mask.
 #[derive(Clone, Copy, Debug, PartialEq, Eq)]
 pub struct GroupKeys {
     units: [Option<Unit>; SLOTS],
@@ -44,8 +45,9 @@ impl GroupKeys {
     /// This many units, all free.
     pub fn new(units: u32) -> GroupKeys
         requires some { 1 ≤ units }
-        requires few { units ≤ MOST_UNITS }
-        ensures { result ≡ replicate units None }
+        requires few { units ≤ 4 }
+        ensures units { result ≡ replicate units None }
+        ensures sound { AreSound result }
     {
         GroupKeys {
             units: [None; SLOTS],
@@ -54,14 +56,23 @@ impl GroupKeys {
     }
 
     /// The units that give the key of this mask: the least in use with the mask, else the least
-    /// free one; none where there is neither.
+    /// pair of units in use whose masks XOR to it, else the least free one; none where there is
+    /// none of these.
     #[tactic(auto, using(crate::proofs::UseLemmas::keys_stand))]
     pub fn find(&self, mask: &Mask) -> Option<KeyUse>
         requires { mask.now ≢ no_lengths }
         ensures keys { result ≡ keys_for self.now mask.now }
         ensures stand { IfSome result (AreUnits self.now) }
+        ensures sound { AreSound self.now }
     {
         keys_among(&self.units[..self.count as usize], mask)
+    }
+
+    /// Whether each unit can have one use more: it has fewer than 10,000.
+    pub fn has_room(&self) -> bool
+        ensures { IsTrue result ↔ All HasRoom self.now }
+    {
+        have_room(&self.units[..self.count as usize])
     }
 
     /// The units that `find` gives, with one use more on each; a free unit takes the mask. Nothing
@@ -73,17 +84,20 @@ impl GroupKeys {
         ensures units { MatchOption result (self.new ≡ self.old)
             (λ keys. self.new ≡ served_units self.old keys mask.now) }
         ensures in_use { IfSome result (AreInUse self.new) }
+        ensures sound { AreSound self.new }
     {
         let keys = self.find(mask)?;
         self.serve_units(keys, mask);
         Some(keys)
     }
 
-    /// One use less on each of the units; one without uses is free.
+    /// One use less on each of the units, for each time that it serves the use; a unit without uses
+    /// is free.
     #[tactic(auto, unfolding(crate::specs::Units::freed_units))]
     pub fn free(&mut self, keys: KeyUse)
         requires { AreInUse self.old keys }
-        ensures { self.new ≡ freed_units self.old keys }
+        ensures units { self.new ≡ freed_units self.old keys }
+        ensures sound { AreSound self.new }
     {
         match keys {
             KeyUse::Single { unit } => self.free_unit(unit),
@@ -97,19 +111,23 @@ impl GroupKeys {
     /// The mask of a unit in use, none of a free one.
     pub fn unit(&self, unit: u32) -> Option<Mask>
         requires { unit < length self.now }
-        ensures { result ≡ mask_of (unit_at self.now unit) }
+        ensures mask { result ≡ mask_of (unit_at self.now unit) }
+        ensures sound { AreSound self.now }
     {
         let unit = self.units[unit as usize]?;
         Some(unit.mask())
     }
 
-    /// One use more on each of the units, for this mask.
+    /// One use more on each of the units that give the key of this mask.
     #[tactic(auto, unfolding(crate::specs::Units::served_units))]
     fn serve_units(&mut self, keys: KeyUse, mask: &Mask)
-        requires stand { AreUnits self.old keys }
+        requires stands { mask.now ≢ no_lengths }
         requires room { All HasRoom self.old }
+        requires found { keys_for self.old mask.now ≡ Some keys }
+        requires sound { AreSound self.old }
         ensures units { self.new ≡ served_units self.old keys mask.now }
         ensures in_use { AreInUse self.new keys }
+        ensures sound { AreSound self.new }
     {
         match keys {
             KeyUse::Single { unit } => self.serve_unit(unit, mask),
@@ -124,6 +142,7 @@ impl GroupKeys {
     fn serve_unit(&mut self, unit: u32, mask: &Mask)
         requires exists { unit < length self.old }
         requires room { HasRoom (unit_at self.old unit) }
+        requires sound { AreSound (served_at mask.now self.old unit) }
         ensures { self.new ≡ served_at mask.now self.old unit }
     {
         let at = unit as usize;
@@ -133,50 +152,19 @@ impl GroupKeys {
     /// One use less on the unit.
     fn free_unit(&mut self, unit: u32)
         requires { unit < length self.old }
-        ensures { self.new ≡ freed_at self.old unit }
+        ensures units { self.new ≡ freed_at self.old unit }
+        ensures sound { AreSound self.new }
     {
         let at = unit as usize;
         self.units[at] = without_use(self.units[at]);
     }
 }
 
-/// The units among these that give the key of this mask.
-#[tactic(auto, unfolding(crate::specs::Units::keys_for))]
-fn keys_among(units: &[Option<Unit>], mask: &Mask) -> Option<KeyUse>
-    requires { length units.now ≤ MOST_UNITS }
-    ensures { result ≡ keys_for units.now mask.now }
+/// Whether each of the units can have one use more.
+fn have_room(units: &[Option<Unit>]) -> bool
+    ensures { IsTrue result ↔ All HasRoom units.now }
 {
-    if let Some(place) = place_with(units, mask) {
-        return Some(single(place));
-    }
-    if let Some(place) = free_place(units) {
-        return Some(single(place));
-    }
-    None
-}
-
-/// The unit that stands in this place, alone.
-fn single(place: usize) -> KeyUse
-    requires { place < MOST_UNITS }
-    ensures { result ≡ Single place }
-{
-    KeyUse::Single { unit: place as u32 }
-}
-
-/// The place of the least unit in use with this mask.
-fn place_with(units: &[Option<Unit>], mask: &Mask) -> Option<usize>
-    ensures least { result ≡ position (has_mask mask.now) units.now }
-    ensures exists { IfSome result (λ place. place < length units.now) }
-{
-    units.iter().position(|unit| is_with(unit, mask))
-}
-
-/// The place of the least free unit.
-fn free_place(units: &[Option<Unit>]) -> Option<usize>
-    ensures least { result ≡ position is_free units.now }
-    ensures exists { IfSome result (λ place. place < length units.now) }
-{
-    units.iter().position(|unit| is_unused(unit))
+    units.iter().all(|unit| has_room(unit))
 }
 
 #[cfg(test)]

@@ -2,6 +2,7 @@
 //! rows.
 #![tactic(auto)]
 
+mod finds;
 mod groups;
 pub mod laws;
 mod units;

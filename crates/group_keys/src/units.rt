@@ -1,12 +1,12 @@
 //! One hash unit: free, or in use with a mask.
 ghost use Rattle.std.specs.Prelude.{◌≡◌, ◌↔◌, ◌+◌, ◌<◌, IsTrue, Some};
-ghost use Rattle.group_keys.specs.Units.{has_mask, is_free, HasRoom, served, freed};
+ghost use Rattle.group_keys.specs.Units.{has_mask, is_free, HasRoom, masks_xor_to, xor_to, served, freed};
 
-use key_mask::Mask;
+use key_mask::{Mask, xors_to};
 use std::marker::Model;
 
 /// The most uses of a unit.
-pub const MOST_USES: u32 = 1_000;
+pub const MOST_USES: u32 = 10_000;
 
 /// A unit in use.
 #[derive(Clone, Copy, Debug, PartialEq, Eq)]
@@ -51,6 +51,37 @@ pub(crate) fn is_unused(unit: &Option<Unit>) -> bool
     unit.is_none()
 }
 
+/// Whether the two units are in use with masks that XOR to this one.
+pub(crate) fn is_pair_for(one: &Option<Unit>, two: &Option<Unit>, mask: &Mask) -> bool
+    ensures { result ≡ xor_to mask.now one.now two.now }
+{
+    match one {
+        Some(one) => match two {
+            Some(two) => masks_xor_to(one, two, mask),
+            None => false,
+        },
+        None => false,
+    }
+}
+
+/// Whether the masks of the two units XOR to this one.
+#[tactic(auto, using(crate::proofs::PairLemmas::tested))]
+fn masks_xor_to(one: &Unit, two: &Unit, mask: &Mask) -> bool
+    ensures { result ≡ masks_xor_to mask.now one.now.mask two.now.mask }
+{
+    xors_to(&one.mask(), &two.mask(), mask)
+}
+
+/// Whether the unit can have one use more.
+pub(crate) fn has_room(unit: &Option<Unit>) -> bool
+    ensures { IsTrue result ↔ HasRoom unit.now }
+{
+    match unit {
+        Some(unit) => unit.uses < MOST_USES,
+        None => true,
+    }
+}
+
 /// The unit with one use more: a free one takes the mask.
 pub(crate) fn with_use(unit: Option<Unit>, mask: &Mask) -> Option<Unit>
     requires { HasRoom unit }
@@ -77,7 +108,7 @@ pub(crate) fn without_use(unit: Option<Unit>) -> Option<Unit>
 
 /// The unit in use with one use more.
 fn one_more(unit: Unit) -> Unit
-    requires { unit.uses < MOST_USES }
+    requires { unit.uses < 10000 }
     ensures mask { result.mask ≡ unit.mask }
     ensures uses { result.uses ≡ unit.uses + 1 }
 {
@@ -98,14 +129,4 @@ fn one_less(unit: Unit) -> Option<Unit>
         mask: unit.mask,
         uses: unit.uses - 1,
     })
-}
-
-#[cfg(test)]
-pub(crate) fn has_room(unit: &Option<Unit>) -> bool
-    ensures { IsTrue result ↔ HasRoom unit.now }
-{
-    match unit {
-        Some(unit) => unit.uses < MOST_USES,
-        None => true,
-    }
 }

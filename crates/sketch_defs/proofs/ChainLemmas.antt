@@ -13,7 +13,7 @@ use Rattle.hash_units.specs.Toeplitz.{row_hash_of}
 use Rattle.hash_units.proofs.HashLemmas.{row_hash_lt}
 use Rattle.sketch_defs.specs.declared.kinds.Kind.TheVariants.{SumaxSum}
 use Rattle.sketch_defs.specs.Answers.{cells_from, cells_found, least_of, answer_of}
-use Rattle.sketch_defs.specs.Cells.{cell_max, key_hash, row_hash_at, index_at, raised_cell, next_bound, raised_rows, raised, chained_cells, cells_for, cells_of}
+use Rattle.sketch_defs.specs.Cells.{cell_max, key_hash, row_hash_at, index_at, raised_cell, next_bound, raised_rows, raised, chained_cells, gathering_of, cells_by, cells_of}
 use Rattle.sketch_defs.specs.Laws.{packets_of, answered, SumaxSumIsAbove}
 use Rattle.sketch_defs.specs.Tasks.{Sketch}
 use Rattle.sketch_defs.proofs.AnswerLemmas.{key_hash_lt, of_key}
@@ -145,7 +145,7 @@ answered_chained : (hash_key : List ℕ) (sketch : Sketch) (bits : ℕ) (packets
 unfolding cells_of
 answered_chained hash_key sketch bits packets vector e =
     let h : ℕ = key_hash hash_key sketch vector in
-    ap (λ kind. answer_of kind (cells_found h bits (cells_for kind hash_key sketch bits packets)) h) e
+    ap (λ kind. answer_of kind (cells_found h bits (cells_by (gathering_of kind) hash_key sketch bits packets)) h) e
 
 pub sumax_sum_is_above : SumaxSumIsAbove
 unfolding answer_of cells_found chained_cells

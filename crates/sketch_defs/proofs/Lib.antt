@@ -7,4 +7,5 @@ pub mod NameLemmas
 pub mod NameValues
 pub mod SizeLemmas
 pub mod TallyLemmas
+pub mod TaskLemmas
 pub mod Values

@@ -1,5 +1,5 @@
 -- What the cells of a task answer.
-use Rattle.std.specs.Prelude.{ℕ, ◌+◌, ◌-◌, ◌*◌, ◌/◌, ◌^◌, ◌==◌, ◌&&◌, Bool, true, min, nat_lt, if◌then◌else◌, List, [], ◌∷◌, map, slice_index, bit_and, bit_or}
+use Rattle.std.specs.Prelude.{ℕ, ◌+◌, ◌-◌, ◌*◌, ◌/◌, ◌^◌, ◌==◌, ◌&&◌, Bool, true, min, nat_lt, if◌then◌else◌, List, [], ◌∷◌, map, slice_index, bit_and, bit_or, Option, None, Some}
 use Rattle.std.specs.Int.{bit_at}
 use Rattle.std.specs.List.{fold, sum}
 use Rattle.addr_translate.specs.Blocks.{index_of}
@@ -31,15 +31,15 @@ have_bits h row [] = true
 have_bits h row (cell ∷ cells) = has_bit h row cell && have_bits h (row + 1) cells
 
 -- what the cells of a key in the rows answer, where h is the key's hash; MRAC and HyperLogLog answer no key
-unfoldable pub answer_of : Kind → List ℕ → ℕ → Reply
-answer_of Cms cells h = Number (least_of cells)
-answer_of SumaxSum cells h = Number (least_of cells)
-answer_of SumaxMax cells h = Number (least_of cells)
-answer_of Bloom cells h = if have_bits h 0 cells then Yes else No
-answer_of Mrac cells h = Number 0
-answer_of Hll cells h = Number 0
-answer_of FlagOr cells h = Number (fold bit_and cell_max cells)
-answer_of FlagAnd cells h = Number (fold bit_or 0 cells)
+unfoldable pub answer_of : Kind → List ℕ → ℕ → Option Reply
+answer_of Cms cells h = Some (Number (least_of cells))
+answer_of SumaxSum cells h = Some (Number (least_of cells))
+answer_of SumaxMax cells h = Some (Number (least_of cells))
+answer_of Bloom cells h = Some (if have_bits h 0 cells then Yes else No)
+answer_of Mrac cells h = None
+answer_of Hll cells h = None
+answer_of FlagOr cells h = Some (Number (fold bit_and cell_max cells))
+answer_of FlagAnd cells h = Some (Number (fold bit_or 0 cells))
 
 -- HyperLogLog: how many cells are 0, and the sum of 2^(33 - cell), where a cell above 33 counts as 33
 abbrev pub zero_share : ℕ → ℕ
@@ -54,20 +54,18 @@ zeros_of cells = sum (map zero_share cells)
 abbrev pub z_of : List ℕ → ℕ
 z_of cells = sum (map rank_share cells)
 
--- alpha, as a fraction, for 2^bits cells
-unfoldable pub alpha_over : ℕ → ℕ
-alpha_over bits =
-    if bits == 4 then 673
-    else (if bits == 5 then 697
-    else (if bits == 6 then 709
-    else 7213 * 2 ^ bits))
-
-unfoldable pub alpha_under : ℕ → ℕ
-alpha_under bits = if nat_lt bits 7 then 1000 else 10 * (1000 * 2 ^ bits + 1079)
+-- alpha for 2^bits cells, as a fraction: three constants, and from 128 cells on 0.7213 / (1 + 1.079 / 2^bits). A row of
+-- HyperLogLog has 16 cells or more
+unfoldable pub alpha : ℕ → ℕ × ℕ
+alpha bits =
+    if bits == 4 then (673, 1000)
+    else (if bits == 5 then (697, 1000)
+    else (if bits == 6 then (709, 1000)
+    else (7213 * 2 ^ bits, 10 * (1000 * 2 ^ bits + 1079))))
 
 -- the raw estimate: alpha times the square of the number of cells, over the sum of 2^-cell
 unfoldable pub raw_of : ℕ → ℕ → ℕ
-raw_of bits z = alpha_over bits * 2 ^ (2 * bits + 33) / (alpha_under bits * z)
+raw_of bits z = (alpha bits).0 * 2 ^ (2 * bits + 33) / ((alpha bits).1 * z)
 
 -- MRAC: each value among the cells with the number of cells that hold it, the values rising
 pub record Size : Type 0 where

@@ -1,6 +1,6 @@
--- The cells of a task: what its registers hold, by the packets that came to each. `hash_key` is the hash key, and `bits` says how
--- many cells a row has, apart from the task's own size, so that a partition that was frozen at another size uses the same words.
-use Rattle.std.specs.Prelude.{ℕ, ◌+◌, ◌^◌, ◌==◌, zero, suc, min, max, nat_lt, if◌then◌else◌, List, [], ◌∷◌, map, replicate, slice_index, slice_index_or, slice_set, bit_and, bit_or}
+-- The cells of a task: what its registers hold, by the packets that came to each. `bits` says how many cells a row has, apart
+-- from the task's own size, so that a partition that was frozen at another size uses the same words.
+use Rattle.std.specs.Prelude.{ℕ, ◌+◌, ◌^◌, ◌==◌, zero, suc, min, max, nat_lt, if◌then◌else◌, List, [], ◌∷◌, map, replicate, slice_index, slice_index_or, slice_set, bit_and, bit_or, Option, None, Some}
 use Rattle.std.specs.List.{filter, fold, sum, range_with_len}
 use Rattle.key_mask.specs.Bytes.{and_bytes}
 use Rattle.key_mask.specs.Masks.{mask_bytes_of}
@@ -43,25 +43,38 @@ brought_by FlagAnd hash_key sketch bits row packet = weight_of packet sketch.att
 abbrev pub packets_at : List ℕ → Sketch → ℕ → List Packet → ℕ → ℕ → List Packet
 packets_at hash_key sketch bits packets row index = filter (λ packet. index_at hash_key sketch bits row packet == index) packets
 
--- what a cell makes of all that its packets brought
-abbrev pub gathered : Kind → List ℕ → ℕ
-gathered Cms brought = min (sum brought) cell_max
-gathered SumaxSum brought = min (sum brought) cell_max
-gathered SumaxMax brought = fold max 0 brought
-gathered Bloom brought = fold bit_or 0 brought
-gathered Mrac brought = min (sum brought) cell_max
-gathered Hll brought = fold max 0 brought
-gathered FlagOr brought = fold bit_or 0 brought
-gathered FlagAnd brought = fold bit_and cell_max brought
+-- how a cell makes its value of all that its packets brought
+pub data Gathering : Type 0 where
+  Added : Gathering
+  Greatest : Gathering
+  AnyBits : Gathering
+  AllBits : Gathering
 
--- a cell of a kind whose rows know nothing of one another
-unfoldable pub closed_cell : List ℕ → Sketch → ℕ → List Packet → ℕ → ℕ → ℕ
-closed_cell hash_key sketch bits packets row index =
-    gathered sketch.kind (map (brought_by sketch.kind hash_key sketch bits row) (packets_at hash_key sketch bits packets row index))
+-- that of a kind whose rows know nothing of one another; in SuMax that adds a row knows of the rows before it
+abbrev pub gathering_of : Kind → Option Gathering
+gathering_of Cms = Some Added
+gathering_of SumaxSum = None
+gathering_of SumaxMax = Some Greatest
+gathering_of Bloom = Some AnyBits
+gathering_of Mrac = Some Added
+gathering_of Hll = Some Greatest
+gathering_of FlagOr = Some AnyBits
+gathering_of FlagAnd = Some AllBits
 
-unfoldable pub closed_cells : List ℕ → Sketch → ℕ → List Packet → List (List ℕ)
-closed_cells hash_key sketch bits packets =
-    map (λ row. map (closed_cell hash_key sketch bits packets row) (range_with_len 0 (2 ^ bits))) (range_with_len 0 sketch.rows)
+abbrev pub gathered : Gathering → List ℕ → ℕ
+gathered Added brought = min (sum brought) cell_max
+gathered Greatest brought = fold max 0 brought
+gathered AnyBits brought = fold bit_or 0 brought
+gathered AllBits brought = fold bit_and cell_max brought
+
+-- a cell of a row that knows nothing of the others
+unfoldable pub independent_cell : Gathering → List ℕ → Sketch → ℕ → List Packet → ℕ → ℕ → ℕ
+independent_cell gathering hash_key sketch bits packets row index =
+    gathered gathering (map (brought_by sketch.kind hash_key sketch bits row) (packets_at hash_key sketch bits packets row index))
+
+unfoldable pub independent_cells : Gathering → List ℕ → Sketch → ℕ → List Packet → List (List ℕ)
+independent_cells gathering hash_key sketch bits packets =
+    map (λ row. map (independent_cell gathering hash_key sketch bits packets row) (range_with_len 0 (2 ^ bits))) (range_with_len 0 sketch.rows)
 
 -- SuMax-Sum: a cell below the bound of a packet is raised by the weight and is the bound of the next row; any other cell,
 -- and the bound, stay
@@ -75,10 +88,10 @@ next_bound weight bound cell = if nat_lt cell bound then min (cell + weight) cel
 abbrev pub raised_rows : List ℕ → Sketch → ℕ → Packet → ℕ → ℕ → List (List ℕ) → List (List ℕ)
 raised_rows hash_key sketch bits packet bound row [] = []
 raised_rows hash_key sketch bits packet bound row (cells ∷ rows) =
-    let place = index_at hash_key sketch bits row packet in
+    let index = index_at hash_key sketch bits row packet in
     let weight = weight_of packet sketch.attr in
-    let cell = slice_index cells place in
-    slice_set cells place (raised_cell weight bound cell) ∷ raised_rows hash_key sketch bits packet (next_bound weight bound cell) (row + 1) rows
+    let cell = slice_index cells index in
+    slice_set cells index (raised_cell weight bound cell) ∷ raised_rows hash_key sketch bits packet (next_bound weight bound cell) (row + 1) rows
 
 unfoldable pub raised : List ℕ → Sketch → ℕ → List (List ℕ) → Packet → List (List ℕ)
 raised hash_key sketch bits rows packet = raised_rows hash_key sketch bits packet cell_max 0 rows
@@ -98,19 +111,13 @@ bound_in hash_key sketch bits packet bound row (cells ∷ rows) (suc i) =
 unfoldable pub bound_at : List ℕ → Sketch → ℕ → List (List ℕ) → Packet → ℕ → ℕ
 bound_at hash_key sketch bits cells packet row = bound_in hash_key sketch bits packet cell_max 0 cells row
 
-abbrev pub cells_for : Kind → List ℕ → Sketch → ℕ → List Packet → List (List ℕ)
-cells_for Cms hash_key sketch bits packets = closed_cells hash_key sketch bits packets
-cells_for SumaxSum hash_key sketch bits packets = chained_cells hash_key sketch bits packets
-cells_for SumaxMax hash_key sketch bits packets = closed_cells hash_key sketch bits packets
-cells_for Bloom hash_key sketch bits packets = closed_cells hash_key sketch bits packets
-cells_for Mrac hash_key sketch bits packets = closed_cells hash_key sketch bits packets
-cells_for Hll hash_key sketch bits packets = closed_cells hash_key sketch bits packets
-cells_for FlagOr hash_key sketch bits packets = closed_cells hash_key sketch bits packets
-cells_for FlagAnd hash_key sketch bits packets = closed_cells hash_key sketch bits packets
+abbrev pub cells_by : Option Gathering → List ℕ → Sketch → ℕ → List Packet → List (List ℕ)
+cells_by None hash_key sketch bits packets = chained_cells hash_key sketch bits packets
+cells_by (Some gathering) hash_key sketch bits packets = independent_cells gathering hash_key sketch bits packets
 
 -- the rows of a task after these packets, each a list of `2 ^ bits` cells
 unfoldable pub cells_of : List ℕ → Sketch → ℕ → List Packet → List (List ℕ)
-cells_of hash_key sketch bits packets = cells_for sketch.kind hash_key sketch bits packets
+cells_of hash_key sketch bits packets = cells_by (gathering_of sketch.kind) hash_key sketch bits packets
 
 abbrev pub row_of : List (List ℕ) → ℕ → List ℕ
 row_of rows row = slice_index_or rows row []

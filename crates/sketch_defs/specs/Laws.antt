@@ -1,6 +1,6 @@
 -- What holds of the answers of a task, for all packets and every key value: each keeps its side of the truth. The key value is
 -- given by a vector, of which the mask of the task's key leaves it.
-use Rattle.std.specs.Prelude.{◌≡◌, ℕ, ◌≤◌, min, max, List, length, map, bit_and, bit_or}
+use Rattle.std.specs.Prelude.{◌≡◌, ℕ, ◌≤◌, min, max, List, length, map, bit_and, bit_or, Option, Some}
 use Rattle.std.specs.List.{All, filter, fold, sum}
 use Rattle.std.specs.Str.{bytes_eq}
 use Rattle.key_mask.specs.Bytes.{and_bytes}
@@ -24,7 +24,7 @@ abbrev pub weights_of : Sketch → List ℕ → List Packet → List ℕ
 weights_of sketch vector packets = map (λ packet. weight_of packet sketch.attr) (packets_of sketch vector packets)
 
 -- what the task answers for the key value after these packets
-abbrev pub answered : List ℕ → Sketch → ℕ → List Packet → List ℕ → Reply
+abbrev pub answered : List ℕ → Sketch → ℕ → List Packet → List ℕ → Option Reply
 answered hash_key sketch bits packets vector =
     let h = key_hash hash_key sketch vector in answer_of sketch.kind (cells_found h bits (cells_of hash_key sketch bits packets)) h
 
@@ -36,39 +36,39 @@ AreWords sketch packets = All (λ packet. weight_of packet sketch.attr ≤ cell_
 abbrev pub CountMinIsAbove : Type 0
 CountMinIsAbove = (hash_key : List ℕ) (sketch : Sketch) (bits : ℕ) (packets : List Packet) (vector : List ℕ)
     → sketch.kind ≡ Cms → bits ≤ 32
-    → (answer : ℕ) × (answered hash_key sketch bits packets vector ≡ Number answer)
+    → (answer : ℕ) × (answered hash_key sketch bits packets vector ≡ Some (Number answer))
     × (min (sum (weights_of sketch vector packets)) cell_max ≤ answer)
 
 -- so does SuMax that adds
 abbrev pub SumaxSumIsAbove : Type 0
 SumaxSumIsAbove = (hash_key : List ℕ) (sketch : Sketch) (bits : ℕ) (packets : List Packet) (vector : List ℕ)
     → sketch.kind ≡ SumaxSum → bits ≤ 32
-    → (answer : ℕ) × (answered hash_key sketch bits packets vector ≡ Number answer)
+    → (answer : ℕ) × (answered hash_key sketch bits packets vector ≡ Some (Number answer))
     × (min (sum (weights_of sketch vector packets)) cell_max ≤ answer)
 
 -- SuMax that keeps the greatest answers no less than the greatest
 abbrev pub SumaxMaxIsAbove : Type 0
 SumaxMaxIsAbove = (hash_key : List ℕ) (sketch : Sketch) (bits : ℕ) (packets : List Packet) (vector : List ℕ)
     → sketch.kind ≡ SumaxMax → bits ≤ 32 → AreWords sketch packets
-    → (answer : ℕ) × (answered hash_key sketch bits packets vector ≡ Number answer)
+    → (answer : ℕ) × (answered hash_key sketch bits packets vector ≡ Some (Number answer))
     × (fold max 0 (weights_of sketch vector packets) ≤ answer)
 
 -- a Bloom filter misses no key value that came
 abbrev pub BloomMissesNone : Type 0
 BloomMissesNone = (hash_key : List ℕ) (sketch : Sketch) (bits : ℕ) (packets : List Packet) (vector : List ℕ)
     → sketch.kind ≡ Bloom → bits ≤ 32 → 1 ≤ length (packets_of sketch vector packets)
-    → answered hash_key sketch bits packets vector ≡ Yes
+    → answered hash_key sketch bits packets vector ≡ Some Yes
 
 -- the flags that some packet set are all in the answer
 abbrev pub FlagOrHasAll : Type 0
 FlagOrHasAll = (hash_key : List ℕ) (sketch : Sketch) (bits : ℕ) (packets : List Packet) (vector : List ℕ)
     → sketch.kind ≡ FlagOr → bits ≤ 32 → AreWords sketch packets
-    → (answer : ℕ) × (answered hash_key sketch bits packets vector ≡ Number answer)
+    → (answer : ℕ) × (answered hash_key sketch bits packets vector ≡ Some (Number answer))
     × (bit_and (fold bit_or 0 (weights_of sketch vector packets)) answer ≡ fold bit_or 0 (weights_of sketch vector packets))
 
 -- the answer has no flag that some packet did not set
 abbrev pub FlagAndHasNoOther : Type 0
 FlagAndHasNoOther = (hash_key : List ℕ) (sketch : Sketch) (bits : ℕ) (packets : List Packet) (vector : List ℕ)
     → sketch.kind ≡ FlagAnd → bits ≤ 32
-    → (answer : ℕ) × (answered hash_key sketch bits packets vector ≡ Number answer)
+    → (answer : ℕ) × (answered hash_key sketch bits packets vector ≡ Some (Number answer))
     × (bit_and answer (fold bit_and cell_max (weights_of sketch vector packets)) ≡ answer)

@@ -2,7 +2,6 @@
 use Rattle.std.specs.Prelude.{ℕ, ◌==◌, ◌-◌, ◌||◌, ◌&&◌, Bool, false, nat_le, List, [], ◌∷◌, ◌++◌, length, replicate}
 use Rattle.std.specs.List.{list_all}
 use Rattle.key_mask.specs.Numbers.{is_digit}
-use Rattle.sketch_defs.specs.declared.names.TheConstants.{NAME_BYTES}
 
 abbrev pub is_lower : ℕ → Bool
 is_lower byte = nat_le 97 byte && nat_le byte 122
@@ -17,8 +16,8 @@ starts_low (first ∷ rest) = is_lower first
 
 -- 1 to 16 bytes, a lower-case letter first
 abbrev pub is_name : List ℕ → Bool
-is_name text = starts_low text && nat_le (length text) NAME_BYTES && list_all is_name_byte text
+is_name text = starts_low text && nat_le (length text) 16 && list_all is_name_byte text
 
 -- the bytes of a name with zeros behind
 unfoldable pub padded : List ℕ → List ℕ
-padded name = name ++ replicate (NAME_BYTES - length name) 0
+padded name = name ++ replicate (16 - length name) 0

@@ -1,5 +1,5 @@
 //! What the cells of a task answer for a key.
-ghost use Rattle.std.specs.Prelude.{◌≡◌, ◌≢◌, ◌<◌, ◌≤◌, length, bit_and, bit_or};
+ghost use Rattle.std.specs.Prelude.{◌≡◌, ◌≢◌, ◌<◌, ◌≤◌, Some, length, bit_and, bit_or};
 ghost use Rattle.std.specs.List.{fold};
 ghost use Rattle.sketch_defs.specs.declared.kinds.Kind.TheVariants.{Mrac, Hll};
 ghost use Rattle.sketch_defs.specs.Answers.{answer_of, least_of, has_bit, have_bits};
@@ -31,7 +31,7 @@ pub fn answer(kind: Kind, cells: &[u32], h: u32) -> Reply
     requires few { length cells.now ≤ 4 }
     requires no_counters { kind ≢ Mrac }
     requires no_ranks { kind ≢ Hll }
-    ensures { result ≡ answer_of kind cells.now h }
+    ensures { answer_of kind cells.now h ≡ Some result }
 {
     match kind {
         Kind::Cms | Kind::SumaxSum | Kind::SumaxMax => Reply::Number(least(cells)),

@@ -1,6 +1,6 @@
 //! The kinds of sketch, and what each of them allows.
 ghost use Rattle.std.specs.Prelude.{◌≡◌};
-ghost use Rattle.sketch_defs.specs.Tasks.{most_rows, allows};
+ghost use Rattle.sketch_defs.specs.Tasks.{most_rows, allows_rows, allows};
 
 use pkt_headers::Attr;
 
@@ -34,6 +34,14 @@ impl Kind {
             Kind::Mrac | Kind::Hll => 1,
             _ => 4,
         }
+    }
+
+    /// Whether a task of this kind may have so many rows.
+    #[tactic(auto, using(std::proofs::lemmas::Bool::Decides::nat_tests))]
+    pub fn allows_rows(self, rows: u32) -> bool
+        ensures { result ≡ allows_rows self rows }
+    {
+        1 <= rows && rows <= self.most_rows()
     }
 
     /// Whether a task of this kind may have the attribute.

@@ -1,4 +1,5 @@
-//! What a measurement task is: its name, kind, rows, key, attribute, filter and size.
+//! What a measurement task is: its name, kind, rows, key, attribute, filter and size; what its cells hold,
+//! and what they answer.
 #![tactic(auto)]
 
 mod answers;

@@ -1,6 +1,6 @@
 //! What HyperLogLog tells of its cells.
 ghost use Rattle.std.specs.Prelude.{◌≡◌, ◌+◌, ◌^◌, ◌<◌, ◌≤◌};
-ghost use Rattle.sketch_defs.specs.Answers.{zero_share, rank_share, alpha_over, alpha_under, raw_of};
+ghost use Rattle.sketch_defs.specs.Answers.{zero_share, rank_share, alpha, raw_of};
 
 use crate::answers::Tally;
 
@@ -20,7 +20,7 @@ pub fn tally_add(tally: Tally, cell: u32) -> Tally
 fn zero_share(cell: u32) -> u32
     ensures { result ≡ zero_share cell }
 {
-    if cell == 0 { 1 } else { 0 }
+    u32::from(cell == 0)
 }
 
 fn rank_share(cell: u32) -> u128
@@ -40,36 +40,28 @@ pub fn raw_estimate(bits: u32, z: u128) -> u128
     ensures { result ≡ raw_of bits z }
 {
     let square = 1u128 << (2 * bits + 33);
-    let over = alpha_over(bits) * square;
-    let under = alpha_under(bits) * z;
-    over / under
+    let (over, under) = alpha(bits);
+    over * square / (under * z)
 }
 
-#[tactic(auto, unfolding(crate::specs::Answers::alpha_over))]
-fn alpha_over(bits: u32) -> u128
+/// HyperLogLog's constant for 2^`bits` cells, as a fraction.
+#[tactic(auto, unfolding(crate::specs::Answers::alpha))]
+fn alpha(bits: u32) -> (u128, u128)
     requires { bits ≤ 20 }
-    ensures value { result ≡ alpha_over bits }
-    ensures small { result < 2 ^ 33 }
+    ensures over { result.0 ≡ (alpha bits).0 }
+    ensures under { result.1 ≡ (alpha bits).1 }
+    ensures some { 1 ≤ result.1 }
+    ensures small_over { result.0 < 2 ^ 33 }
+    ensures small_under { result.1 < 2 ^ 34 }
 {
     match bits {
-        4 => 673,
-        5 => 697,
-        6 => 709,
-        _ => 7213 * (1u128 << bits),
-    }
-}
-
-#[tactic(auto, unfolding(crate::specs::Answers::alpha_under))]
-fn alpha_under(bits: u32) -> u128
-    requires { bits ≤ 20 }
-    ensures value { result ≡ alpha_under bits }
-    ensures some { 1 ≤ result }
-    ensures small { result < 2 ^ 34 }
-{
-    if bits < 7 {
-        1000
-    } else {
-        10 * (1000 * (1u128 << bits) + 1079)
+        4 => (673, 1000),
+        5 => (697, 1000),
+        6 => (709, 1000),
+        _ => {
+            let cells = 1u128 << bits;
+            (7213 * cells, 10 * (1000 * cells + 1079))
+        }
     }
 }
 
@@ -98,6 +90,15 @@ mod tests {
             z: 543_313_362_944,
         };
         assert_eq!(rt; tally_add(one_left, 2), one_told);
+    }
+
+    #[test]
+    fn cells_above_33_count_as_33(rt: HostRuntime) {
+        let none = Tally { zeros: 0, z: 0 };
+        let one = Tally { zeros: 0, z: 1 };
+        for cell in [33, 34, u32::MAX] {
+            assert_eq!(rt; tally_add(none, cell), one);
+        }
     }
 
     #[test]

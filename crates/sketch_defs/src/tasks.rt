@@ -1,6 +1,7 @@
 //! Tasks, each with what its kind allows.
 ghost use Rattle.std.specs.Prelude.{◌≡◌, ◌≢◌, ◌≤◌, IsTrue, MatchResult, Some, None};
-ghost use Rattle.sketch_defs.specs.Tasks.{Sketch, first_fault, is_no_key};
+ghost use Rattle.key_mask.specs.Keys.{no_lengths};
+ghost use Rattle.sketch_defs.specs.Tasks.{Sketch, first_fault, is_no_key, allows_rows, allows};
 
 use crate::kinds::Kind;
 use crate::names::Name;
@@ -61,7 +62,7 @@ impl Task {
         ensures { let asked : Sketch = record { name = name; kind = kind; rows = rows; key = key; attr = attr; filter = filter; size = size } in
             MatchResult result (λ task. (task ≡ asked) × (first_fault asked ≡ None)) (λ fault. first_fault asked ≡ Some fault) }
     {
-        if rows == 0 || rows > kind.most_rows() {
+        if !kind.allows_rows(rows) {
             return Err(TaskFault::Rows);
         }
         if is_empty(&key) {
@@ -93,22 +94,29 @@ impl Task {
         self.kind
     }
 
-    /// 1 to 4, and as many as the kind allows.
+    /// 1 to 4, as the kind allows.
+    #[tactic(auto, using(crate::proofs::TaskLemmas::some_rows, crate::proofs::TaskLemmas::few_rows, crate::proofs::TaskLemmas::rows_allowed))]
     pub fn rows(&self) -> u32
         ensures value { result ≡ self.now.rows }
-        ensures allowed { first_fault self.now ≡ None }
+        ensures some { 1 ≤ result }
+        ensures few { result ≤ 4 }
+        ensures allowed { IsTrue (allows_rows self.now.kind result) }
     {
         self.rows
     }
 
     pub fn key(&self) -> &Mask
-        ensures { result.now ≡ self.now.key }
+        ensures value { result.now ≡ self.now.key }
+        ensures stands { result.now ≢ no_lengths }
     {
         &self.key
     }
 
+    /// One that the kind allows.
+    #[tactic(auto, using(crate::proofs::TaskLemmas::attr_allowed))]
     pub fn attr(&self) -> Attr
-        ensures { result ≡ self.now.attr }
+        ensures value { result ≡ self.now.attr }
+        ensures allowed { IsTrue (allows self.now.kind result) }
     {
         self.attr
     }

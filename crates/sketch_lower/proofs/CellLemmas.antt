@@ -1,9 +1,9 @@
 -- The cells before any packet, and after one more.
-use Rattle.std.proofs.Common.{◌≡◌, ℕ, zero, suc, ◌+◌, ◌^◌, ◌<◌, ◌≤◌, ◌==◌, ◌⊎◌, inl, inr, Bool, true, false, min, max, List, [], ◌∷◌, ◌++◌, length, map, set, get_or, replicate, nat_lt, if◌then◌else◌, bit_and, bit_or, refl, ap, sym, ◌∙◌, arith, ⊎_elim}
+use Rattle.std.proofs.Common.{◌≡◌, ℕ, zero, suc, ◌+◌, ◌^◌, ◌<◌, ◌≤◌, ◌==◌, ◌⊎◌, inl, inr, Bool, true, false, min, max, List, [], ◌∷◌, ◌++◌, length, map, set, get_or, replicate, nat_lt, if◌then◌else◌, bit_and, bit_or, Option, Some, IfSome, refl, subst, ap, sym, ◌∙◌, arith, ⊎_elim}
 use Rattle.std.specs.List.{filter, fold, sum, range_with_len}
 use Rattle.std.proofs.lemmas.Bool.{cases_eq, eq-eqb, ne_eqb}
 use Rattle.std.proofs.lemmas.Bool.Decides.{nat_tests}
-use Rattle.std.proofs.lemmas.List.{append-nil, length-set, length-replicate, get_or-set_same, get_or-set_other, same_lists, map_push}
+use Rattle.std.proofs.lemmas.List.{append-nil, length-set, length-replicate, get_or-set_same, get_or-set_other, same_lists, map_push, get_or_default}
 use Rattle.std.proofs.lemmas.List.Elements.{filter-append}
 use Rattle.std.proofs.lemmas.List.FromFn.{length-map-range_with_len, get_or-map-range_with_len}
 use Rattle.std.proofs.lemmas.List.Sums.{fold-append}
@@ -18,7 +18,7 @@ use Rattle.stateful_ops.specs.Ops.{new_register, carry_of}
 use Rattle.sketch_defs.specs.declared.kinds.Kind.{Kind}
 use Rattle.sketch_defs.specs.declared.kinds.Kind.TheVariants.{Cms, SumaxSum, SumaxMax, Bloom, Mrac, Hll, FlagOr, FlagAnd}
 use Rattle.sketch_defs.specs.Tasks.{Sketch}
-use Rattle.sketch_defs.specs.Cells.{cell_max, key_hash, row_hash_at, index_at, brought_by, packets_at, gathered, closed_cell, closed_cells, raised_cell, next_bound, raised_rows, raised, chained_cells, bound_in, bound_at, cells_for, cells_of, row_of}
+use Rattle.sketch_defs.specs.Cells.{cell_max, key_hash, row_hash_at, index_at, brought_by, packets_at, Gathering, Added, Greatest, AnyBits, AllBits, gathering_of, gathered, independent_cell, independent_cells, raised_cell, next_bound, raised_rows, raised, chained_cells, bound_in, bound_at, cells_by, cells_of, row_of}
 use Rattle.sketch_lower.specs.Operations.{start_of, operation, operation_at, row_after}
 use Rattle.sketch_lower.specs.Laws.{CellsStart, CellsStep, CarryIsBound}
 
@@ -58,22 +58,30 @@ pub cases_chained : (kind : Kind) → (kind ≡ SumaxSum) ⊎ (kind ≡ SumaxSum
 cases_chained SumaxSum = inl refl
 cases_chained _ = inr (λ q. (cc))
 
-closed_for : (kind : Kind) → (kind ≡ SumaxSum → ⊥) → (hash_key : List ℕ) (sketch : Sketch) (bits : ℕ) (packets : List Packet)
-    → cells_for kind hash_key sketch bits packets ≡ closed_cells hash_key sketch bits packets
-closed_for SumaxSum other hash_key sketch bits packets = absurd (other refl)
-closed_for _ other hash_key sketch bits packets = refl
+-- a kind is chained, or its cells gather what their packets bring
+cases_gathering : (kind : Kind) → (kind ≡ SumaxSum) ⊎ ((gathering : Gathering) × (gathering_of kind ≡ Some gathering))
+cases_gathering Cms = inr (Added, refl)
+cases_gathering SumaxSum = inl refl
+cases_gathering SumaxMax = inr (Greatest, refl)
+cases_gathering Bloom = inr (AnyBits, refl)
+cases_gathering Mrac = inr (Added, refl)
+cases_gathering Hll = inr (Greatest, refl)
+cases_gathering FlagOr = inr (AnyBits, refl)
+cases_gathering FlagAnd = inr (AllBits, refl)
 
-closed_is : (hash_key : List ℕ) (sketch : Sketch) (bits : ℕ) (packets : List Packet) → (sketch.kind ≡ SumaxSum → ⊥)
-    → cells_of hash_key sketch bits packets ≡ closed_cells hash_key sketch bits packets
+independent_is : (gathering : Gathering) (hash_key : List ℕ) (sketch : Sketch) (bits : ℕ) (packets : List Packet)
+    → gathering_of sketch.kind ≡ Some gathering
+    → cells_of hash_key sketch bits packets ≡ independent_cells gathering hash_key sketch bits packets
 unfolding cells_of
-closed_is hash_key sketch bits packets other = closed_for sketch.kind other hash_key sketch bits packets
+independent_is gathering hash_key sketch bits packets known =
+    ap (λ (g : Option Gathering). cells_by g hash_key sketch bits packets) known
 
 pub chained_is : (hash_key : List ℕ) (sketch : Sketch) (bits : ℕ) (packets : List Packet) → sketch.kind ≡ SumaxSum
     → cells_of hash_key sketch bits packets ≡ chained_cells hash_key sketch bits packets
 unfolding cells_of
-chained_is hash_key sketch bits packets chained = ap (λ kind. cells_for kind hash_key sketch bits packets) chained
+chained_is hash_key sketch bits packets chained = ap (λ kind. cells_by (gathering_of kind) hash_key sketch bits packets) chained
 
--- ---- closed kinds
+-- ---- kinds with independent rows
 
 -- a counter that stops
 stopped_more : (total x : ℕ)
@@ -81,26 +89,35 @@ stopped_more : (total x : ℕ)
 stopped_more total x = grind (arith, nat_tests)
 
 -- what a cell makes of one packet more
-gathered_more : (kind : Kind) (brought : List ℕ) (x bound : ℕ) → (kind ≡ SumaxSum → ⊥)
-    → gathered kind (brought ++ x ∷ []) ≡ new_register (operation kind x bound) (gathered kind brought)
-gathered_more Cms brought x bound other = ap (λ n. min n cell_max) (fold-append _ 0 brought (x ∷ [])) ∙ stopped_more (sum brought) x
-gathered_more SumaxSum brought x bound other = absurd (other refl)
-gathered_more SumaxMax brought x bound other = fold-append max 0 brought (x ∷ [])
-gathered_more Bloom brought x bound other = fold-append bit_or 0 brought (x ∷ [])
-gathered_more Mrac brought x bound other = ap (λ n. min n cell_max) (fold-append _ 0 brought (x ∷ [])) ∙ stopped_more (sum brought) x
-gathered_more Hll brought x bound other = fold-append max 0 brought (x ∷ [])
-gathered_more FlagOr brought x bound other = fold-append bit_or 0 brought (x ∷ [])
-gathered_more FlagAnd brought x bound other = fold-append bit_and cell_max brought (x ∷ [])
+gathers_more : (kind : Kind) (brought : List ℕ) (x bound : ℕ)
+    → IfSome (gathering_of kind) (λ gathering. gathered gathering (brought ++ x ∷ []) ≡ new_register (operation kind x bound) (gathered gathering brought))
+gathers_more Cms brought x bound = ap (λ n. min n cell_max) (fold-append _ 0 brought (x ∷ [])) ∙ stopped_more (sum brought) x
+gathers_more SumaxSum brought x bound = tt
+gathers_more SumaxMax brought x bound = fold-append max 0 brought (x ∷ [])
+gathers_more Bloom brought x bound = fold-append bit_or 0 brought (x ∷ [])
+gathers_more Mrac brought x bound = ap (λ n. min n cell_max) (fold-append _ 0 brought (x ∷ [])) ∙ stopped_more (sum brought) x
+gathers_more Hll brought x bound = fold-append max 0 brought (x ∷ [])
+gathers_more FlagOr brought x bound = fold-append bit_or 0 brought (x ∷ [])
+gathers_more FlagAnd brought x bound = fold-append bit_and cell_max brought (x ∷ [])
 
-none_gathered : (kind : Kind) → gathered kind [] ≡ start_of kind
-none_gathered Cms = refl
-none_gathered SumaxSum = refl
-none_gathered SumaxMax = refl
-none_gathered Bloom = refl
-none_gathered Mrac = refl
-none_gathered Hll = refl
-none_gathered FlagOr = refl
-none_gathered FlagAnd = refl
+gathered_more : (kind : Kind) (gathering : Gathering) (brought : List ℕ) (x bound : ℕ) → gathering_of kind ≡ Some gathering
+    → gathered gathering (brought ++ x ∷ []) ≡ new_register (operation kind x bound) (gathered gathering brought)
+gathered_more kind gathering brought x bound known =
+    subst (λ (o : Option Gathering). IfSome o (λ g. gathered g (brought ++ x ∷ []) ≡ new_register (operation kind x bound) (gathered g brought))) known
+    (gathers_more kind brought x bound)
+
+gathers_none : (kind : Kind) → IfSome (gathering_of kind) (λ gathering. gathered gathering [] ≡ start_of kind)
+gathers_none Cms = refl
+gathers_none SumaxSum = tt
+gathers_none SumaxMax = refl
+gathers_none Bloom = refl
+gathers_none Mrac = refl
+gathers_none Hll = refl
+gathers_none FlagOr = refl
+gathers_none FlagAnd = refl
+
+none_gathered : (kind : Kind) (gathering : Gathering) → gathering_of kind ≡ Some gathering → gathered gathering [] ≡ start_of kind
+none_gathered kind gathering known = subst (λ (o : Option Gathering). IfSome o (λ g. gathered g [] ≡ start_of kind)) known (gathers_none kind)
 
 filter_more_yes : (p : Packet → Bool) (packets : List Packet) (packet : Packet) → p packet ≡ true
     → filter p (packets ++ packet ∷ []) ≡ filter p packets ++ packet ∷ []
@@ -110,57 +127,57 @@ filter_more_no : (p : Packet → Bool) (packets : List Packet) (packet : Packet)
     → filter p (packets ++ packet ∷ []) ≡ filter p packets
 filter_more_no p packets packet e = filter-append p packets (packet ∷ []) ∙ rw e (append-nil (filter p packets))
 
-closed_elsewhere : (hash_key : List ℕ) (sketch : Sketch) (bits : ℕ) (packets : List Packet) (packet : Packet) (row index : ℕ)
+independent_elsewhere : (gathering : Gathering) (hash_key : List ℕ) (sketch : Sketch) (bits : ℕ) (packets : List Packet) (packet : Packet) (row index : ℕ)
     → (index ≡ index_at hash_key sketch bits row packet → ⊥)
-    → closed_cell hash_key sketch bits (packets ++ packet ∷ []) row index ≡ closed_cell hash_key sketch bits packets row index
-unfolding closed_cell
-closed_elsewhere hash_key sketch bits packets packet row index other =
-    ap (λ came. gathered sketch.kind (map (brought_by sketch.kind hash_key sketch bits row) came))
+    → independent_cell gathering hash_key sketch bits (packets ++ packet ∷ []) row index ≡ independent_cell gathering hash_key sketch bits packets row index
+unfolding independent_cell
+independent_elsewhere gathering hash_key sketch bits packets packet row index other =
+    ap (λ came. gathered gathering (map (brought_by sketch.kind hash_key sketch bits row) came))
     (filter_more_no (λ p. index_at hash_key sketch bits row p == index) packets packet
     (ne_eqb (index_at hash_key sketch bits row packet) index (λ e. other (sym e))))
 
-closed_here : (hash_key : List ℕ) (sketch : Sketch) (bits : ℕ) (packets : List Packet) (packet : Packet) (row bound : ℕ)
-    → (sketch.kind ≡ SumaxSum → ⊥)
+independent_here : (gathering : Gathering) (hash_key : List ℕ) (sketch : Sketch) (bits : ℕ) (packets : List Packet) (packet : Packet) (row bound : ℕ)
+    → gathering_of sketch.kind ≡ Some gathering
     → let place = index_at hash_key sketch bits row packet in
-    closed_cell hash_key sketch bits (packets ++ packet ∷ []) row place
-    ≡ new_register (operation_at hash_key sketch bits row packet bound) (closed_cell hash_key sketch bits packets row place)
-unfolding closed_cell
-closed_here hash_key sketch bits packets packet row bound other =
+    independent_cell gathering hash_key sketch bits (packets ++ packet ∷ []) row place
+    ≡ new_register (operation_at hash_key sketch bits row packet bound) (independent_cell gathering hash_key sketch bits packets row place)
+unfolding independent_cell
+independent_here gathering hash_key sketch bits packets packet row bound known =
     let place : ℕ = index_at hash_key sketch bits row packet in
     let brought : Packet → ℕ = brought_by sketch.kind hash_key sketch bits row in
     let came : List Packet = packets_at hash_key sketch bits packets row place in
-    ap (λ ps. gathered sketch.kind (map brought ps))
+    ap (λ ps. gathered gathering (map brought ps))
     (filter_more_yes (λ p. index_at hash_key sketch bits row p == place) packets packet (eq-eqb place place refl))
-    ∙ ap (gathered sketch.kind) (map_push brought came packet)
-    ∙ gathered_more sketch.kind (map brought came) (brought packet) bound other
+    ∙ ap (gathered gathering) (map_push brought came packet)
+    ∙ gathered_more sketch.kind gathering (map brought came) (brought packet) bound known
 
-closed_row : (hash_key : List ℕ) (sketch : Sketch) (bits : ℕ) (packets : List Packet) (row : ℕ) → row < sketch.rows
-    → row_of (closed_cells hash_key sketch bits packets) row ≡ map (closed_cell hash_key sketch bits packets row) (range_with_len 0 (2 ^ bits))
-unfolding closed_cells
-closed_row hash_key sketch bits packets row within =
+independent_row : (gathering : Gathering) (hash_key : List ℕ) (sketch : Sketch) (bits : ℕ) (packets : List Packet) (row : ℕ) → row < sketch.rows
+    → row_of (independent_cells gathering hash_key sketch bits packets) row ≡ map (independent_cell gathering hash_key sketch bits packets row) (range_with_len 0 (2 ^ bits))
+unfolding independent_cells
+independent_row gathering hash_key sketch bits packets row within =
     let at : 0 + row ≡ row = omega arith in
-    get_or-map-range_with_len (λ i. map (closed_cell hash_key sketch bits packets i) (range_with_len 0 (2 ^ bits))) 0 sketch.rows row row [] within at
+    get_or-map-range_with_len (λ i. map (independent_cell gathering hash_key sketch bits packets i) (range_with_len 0 (2 ^ bits))) 0 sketch.rows row row [] within at
 
-closed_step : (hash_key : List ℕ) (sketch : Sketch) (bits : ℕ) (packets : List Packet) (packet : Packet) (row bound : ℕ)
-    → (sketch.kind ≡ SumaxSum → ⊥) → bits ≤ 32 → row < sketch.rows
-    → row_of (closed_cells hash_key sketch bits (packets ++ packet ∷ [])) row
-    ≡ row_after hash_key sketch bits row packet bound (row_of (closed_cells hash_key sketch bits packets) row)
+independent_step : (gathering : Gathering) (hash_key : List ℕ) (sketch : Sketch) (bits : ℕ) (packets : List Packet) (packet : Packet) (row bound : ℕ)
+    → gathering_of sketch.kind ≡ Some gathering → bits ≤ 32 → row < sketch.rows
+    → row_of (independent_cells gathering hash_key sketch bits (packets ++ packet ∷ [])) row
+    ≡ row_after hash_key sketch bits row packet bound (row_of (independent_cells gathering hash_key sketch bits packets) row)
 unfolding row_after
-closed_step hash_key sketch bits packets packet row bound other few within =
+independent_step gathering hash_key sketch bits packets packet row bound known few within =
     let place : ℕ = index_at hash_key sketch bits row packet in
     let room : place < 2 ^ bits = place_lt hash_key sketch bits row packet few in
-    let old : ℕ → ℕ = closed_cell hash_key sketch bits packets row in
-    let new : ℕ → ℕ = closed_cell hash_key sketch bits (packets ++ packet ∷ []) row in
+    let old : ℕ → ℕ = independent_cell gathering hash_key sketch bits packets row in
+    let new : ℕ → ℕ = independent_cell gathering hash_key sketch bits (packets ++ packet ∷ []) row in
     let cells : List ℕ = map old (range_with_len 0 (2 ^ bits)) in
     let at : 0 + place ≡ place = omega arith in
     let found : get_or cells place 0 ≡ old place = get_or-map-range_with_len old 0 (2 ^ bits) place place 0 room at in
     let left : new place ≡ new_register (operation_at hash_key sketch bits row packet bound) (get_or cells place 0) =
-    closed_here hash_key sketch bits packets packet row bound other ∙ ap (new_register (operation_at hash_key sketch bits row packet bound)) (sym found) in
-    closed_row hash_key sketch bits (packets ++ packet ∷ []) row within
-    ∙ map_range_set old new (2 ^ bits) place room (λ j ne. closed_elsewhere hash_key sketch bits packets packet row j ne)
+    independent_here gathering hash_key sketch bits packets packet row bound known ∙ ap (new_register (operation_at hash_key sketch bits row packet bound)) (sym found) in
+    independent_row gathering hash_key sketch bits (packets ++ packet ∷ []) row within
+    ∙ map_range_set old new (2 ^ bits) place room (λ j ne. independent_elsewhere gathering hash_key sketch bits packets packet row j ne)
     ∙ ap (set cells place) left
     ∙ ap (λ row_cells. set row_cells place (new_register (operation_at hash_key sketch bits row packet bound) (get_or row_cells place 0)))
-    (sym (closed_row hash_key sketch bits packets row within))
+    (sym (independent_row gathering hash_key sketch bits packets row within))
 
 -- ---- the chained kind
 
@@ -257,43 +274,61 @@ bound_more hash_key sketch bits packet bound row (cells ∷ rows) (suc i) within
 -- ---- all kinds
 
 pub cells_start : CellsStart
-unfolding closed_cells closed_cell chained_cells
+unfolding independent_cells independent_cell chained_cells
 cells_start hash_key sketch bits =
     ⊎_elim
     (λ (chained : sketch.kind ≡ SumaxSum).
     chained_is hash_key sketch bits [] chained
     ∙ ap (λ n. replicate sketch.rows (replicate (2 ^ bits) n)) (ap start_of (sym chained)))
-    (λ (other : sketch.kind ≡ SumaxSum → ⊥).
-    closed_is hash_key sketch bits [] other
-    ∙ constant_range (map (λ (i : ℕ). gathered sketch.kind []) (range_with_len 0 (2 ^ bits))) 0 sketch.rows
-    ∙ ap (replicate sketch.rows) (constant_range (gathered sketch.kind []) 0 (2 ^ bits) ∙ ap (replicate (2 ^ bits)) (none_gathered sketch.kind)))
-    (cases_chained sketch.kind)
+    (λ (other : (gathering : Gathering) × (gathering_of sketch.kind ≡ Some gathering)).
+    independent_is other.0 hash_key sketch bits [] other.1
+    ∙ constant_range (map (λ (i : ℕ). gathered other.0 []) (range_with_len 0 (2 ^ bits))) 0 sketch.rows
+    ∙ ap (replicate sketch.rows) (constant_range (gathered other.0 []) 0 (2 ^ bits) ∙ ap (replicate (2 ^ bits)) (none_gathered sketch.kind other.0 other.1)))
+    (cases_gathering sketch.kind)
 
-pub cells_step : CellsStep
-cells_step hash_key sketch bits packets packet row few within =
+-- one row after one packet more
+pub row_step : (hash_key : List ℕ) (sketch : Sketch) (bits : ℕ) (packets : List Packet) (packet : Packet) (row : ℕ) → bits ≤ 32 → row < sketch.rows
+    → let before = cells_of hash_key sketch bits packets in
+    row_of (cells_of hash_key sketch bits (packets ++ packet ∷ [])) row
+    ≡ row_after hash_key sketch bits row packet (bound_at hash_key sketch bits before packet row) (row_of before row)
+row_step hash_key sketch bits packets packet row few within =
     ⊎_elim
     (λ (chained : sketch.kind ≡ SumaxSum).
     ap (λ cells. row_of cells row) (chained_is hash_key sketch bits (packets ++ packet ∷ []) chained)
     ∙ chained_step hash_key sketch bits packets packet row chained within
     ∙ ap (λ cells. row_after hash_key sketch bits row packet (bound_at hash_key sketch bits cells packet row) (row_of cells row))
     (sym (chained_is hash_key sketch bits packets chained)))
-    (λ (other : sketch.kind ≡ SumaxSum → ⊥).
+    (λ (other : (gathering : Gathering) × (gathering_of sketch.kind ≡ Some gathering)).
     let bound : ℕ = bound_at hash_key sketch bits (cells_of hash_key sketch bits packets) packet row in
-    ap (λ cells. row_of cells row) (closed_is hash_key sketch bits (packets ++ packet ∷ []) other)
-    ∙ closed_step hash_key sketch bits packets packet row bound other few within
-    ∙ ap (λ cells. row_after hash_key sketch bits row packet bound (row_of cells row)) (sym (closed_is hash_key sketch bits packets other)))
-    (cases_chained sketch.kind)
+    ap (λ cells. row_of cells row) (independent_is other.0 hash_key sketch bits (packets ++ packet ∷ []) other.1)
+    ∙ independent_step other.0 hash_key sketch bits packets packet row bound other.1 few within
+    ∙ ap (λ cells. row_after hash_key sketch bits row packet bound (row_of cells row)) (sym (independent_is other.0 hash_key sketch bits packets other.1)))
+    (cases_gathering sketch.kind)
 
 -- there are as many rows as the task has
 pub length-cells : (hash_key : List ℕ) (sketch : Sketch) (bits : ℕ) (packets : List Packet) → length (cells_of hash_key sketch bits packets) ≡ sketch.rows
-unfolding closed_cells
+unfolding independent_cells
 length-cells hash_key sketch bits packets =
     ⊎_elim
     (λ (chained : sketch.kind ≡ SumaxSum). ap length (chained_is hash_key sketch bits packets chained) ∙ length-chained hash_key sketch bits packets)
-    (λ (other : sketch.kind ≡ SumaxSum → ⊥).
-    ap length (closed_is hash_key sketch bits packets other)
-    ∙ length-map-range_with_len (λ i. map (closed_cell hash_key sketch bits packets i) (range_with_len 0 (2 ^ bits))) 0 sketch.rows)
-    (cases_chained sketch.kind)
+    (λ (other : (gathering : Gathering) × (gathering_of sketch.kind ≡ Some gathering)).
+    ap length (independent_is other.0 hash_key sketch bits packets other.1)
+    ∙ length-map-range_with_len (λ i. map (independent_cell other.0 hash_key sketch bits packets i) (range_with_len 0 (2 ^ bits))) 0 sketch.rows)
+    (cases_gathering sketch.kind)
+
+pub cells_step : CellsStep
+cells_step hash_key sketch bits packets packet few =
+    let before : List (List ℕ) = cells_of hash_key sketch bits packets in
+    let after : List (List ℕ) = cells_of hash_key sketch bits (packets ++ packet ∷ []) in
+    let next : ℕ → List ℕ = λ row. row_after hash_key sketch bits row packet (bound_at hash_key sketch bits before packet row) (row_of before row) in
+    let long : length after ≡ sketch.rows = length-cells hash_key sketch bits (packets ++ packet ∷ []) in
+    same_lists after (map next (range_with_len 0 sketch.rows))
+    (long ∙ sym (length-map-range_with_len next 0 sketch.rows))
+    (λ row d h. let within : row < sketch.rows = omega (arith, h, long) in
+    let at : 0 + row ≡ row = omega arith in
+    get_or_default after row d [] (omega (arith, within, long))
+    ∙ row_step hash_key sketch bits packets packet row few within
+    ∙ sym (get_or-map-range_with_len next 0 sketch.rows row row d within at))
 
 pub carry_is_bound : CarryIsBound
 unfolding bound_at

@@ -1,6 +1,5 @@
 pub mod CellLemmas
 pub mod EntryLemmas
-pub mod FitLemmas
 pub mod LeftLemmas
 pub mod RowLemmas
 pub mod Values

@@ -11,7 +11,7 @@ use Rattle.sketch_defs.specs.Tasks.{Sketch}
 use Rattle.sketch_defs.specs.Cells.{cell_max, index_at, brought_by, next_bound, raised_rows, raised, bound_at, cells_of, row_of}
 use Rattle.sketch_lower.specs.Operations.{start_of, operation, operation_at, row_after, row_left, rows_after, passed, rows_left}
 use Rattle.sketch_lower.specs.Laws.{RowLeaves, RowsLeave}
-use Rattle.sketch_lower.proofs.CellLemmas.{place_lt, cases_chained, chained_is, chained_more, raised_after, carried, cells_start, cells_step, length-cells}
+use Rattle.sketch_lower.proofs.CellLemmas.{place_lt, cases_chained, chained_is, chained_more, raised_after, carried, cells_start, row_step, length-cells}
 
 -- ---- what the rows leave
 
@@ -27,7 +27,7 @@ row_goes_on : (hash_key : List ℕ) (sketch : Sketch) (bits row : ℕ) (before p
 row_goes_on hash_key sketch bits row before [] few within =
     ap (λ packets. row_of (cells_of hash_key sketch bits packets) row) (sym (append-nil before))
 row_goes_on hash_key sketch bits row before (packet ∷ packets) few within =
-    ap (row_left hash_key sketch bits row (before ++ packet ∷ []) packets) (sym (cells_step hash_key sketch bits before packet row few within))
+    ap (row_left hash_key sketch bits row (before ++ packet ∷ []) packets) (sym (row_step hash_key sketch bits before packet row few within))
     ∙ row_goes_on hash_key sketch bits row (before ++ packet ∷ []) packets few within
     ∙ ap (λ all. row_of (cells_of hash_key sketch bits all) row) (append_assoc before (packet ∷ []) packets)
 
@@ -72,7 +72,7 @@ cell_here hash_key sketch bits packets packet row few within =
     let place : ℕ = index_at hash_key sketch bits row packet in
     let left : ℕ =
     new_register (operation_at hash_key sketch bits row packet (bound_at hash_key sketch bits before packet row)) (get_or (row_of before row) place 0) in
-    ap (λ cells. get_or cells place 0) (cells_step hash_key sketch bits packets packet row few within)
+    ap (λ cells. get_or cells place 0) (row_step hash_key sketch bits packets packet row few within)
     ∙ get_or-set_same (row_of before row) place left 0
     (omega (arith, place_lt hash_key sketch bits row packet few, length-row hash_key sketch bits packets row few within))
 
@@ -88,7 +88,7 @@ cell_elsewhere hash_key sketch bits packets packet row index few within other =
     let place : ℕ = index_at hash_key sketch bits row packet in
     let left : ℕ =
     new_register (operation_at hash_key sketch bits row packet (bound_at hash_key sketch bits before packet row)) (get_or (row_of before row) place 0) in
-    ap (λ cells. get_or cells index 0) (cells_step hash_key sketch bits packets packet row few within)
+    ap (λ cells. get_or cells index 0) (row_step hash_key sketch bits packets packet row few within)
     ∙ get_or-set_other (row_of before row) place index left 0 other
 
 -- ---- what all rows leave
@@ -124,16 +124,16 @@ any_bound hash_key sketch bits row packet one two registers other =
     ap (λ op. set registers place (new_register op (get_or registers place 0)))
     (bound_is_nothing sketch.kind (brought_by sketch.kind hash_key sketch bits row packet) one two other)
 
-closed_rows : (hash_key : List ℕ) (sketch : Sketch) (bits : ℕ) (packet : Packet) (bound row : ℕ) (rows : List (List ℕ)) (i any : ℕ)
+independent_rows : (hash_key : List ℕ) (sketch : Sketch) (bits : ℕ) (packet : Packet) (bound row : ℕ) (rows : List (List ℕ)) (i any : ℕ)
     → (sketch.kind ≡ SumaxSum → ⊥) → i < length rows
     → row_of (rows_after hash_key sketch bits packet bound row rows) i ≡ row_after hash_key sketch bits (row + i) packet any (row_of rows i)
-closed_rows hash_key sketch bits packet bound row [] i any other within = absurd (omega arith)
-closed_rows hash_key sketch bits packet bound row (cells ∷ rows) zero any other within =
+independent_rows hash_key sketch bits packet bound row [] i any other within = absurd (omega arith)
+independent_rows hash_key sketch bits packet bound row (cells ∷ rows) zero any other within =
     let same : row ≡ row + 0 = omega arith in
     any_bound hash_key sketch bits row packet bound any cells other ∙ ap (λ r. row_after hash_key sketch bits r packet any cells) same
-closed_rows hash_key sketch bits packet bound row (cells ∷ rows) (suc i) any other within =
+independent_rows hash_key sketch bits packet bound row (cells ∷ rows) (suc i) any other within =
     let same : row + 1 + i ≡ row + suc i = omega arith in
-    closed_rows hash_key sketch bits packet
+    independent_rows hash_key sketch bits packet
     (carry_of (operation_at hash_key sketch bits row packet bound) (get_or cells (index_at hash_key sketch bits row packet) 0)) (row + 1) rows i any other
     (omega arith)
     ∙ ap (λ r. row_after hash_key sketch bits r packet any (row_of rows i)) same
@@ -160,9 +160,9 @@ cells_passed hash_key sketch bits packets packet few =
     let within : row < sketch.rows = omega (arith, h, long) in
     let bound : ℕ = bound_at hash_key sketch bits before packet row in
     let same : 0 + row ≡ row = omega arith in
-    closed_rows hash_key sketch bits packet cell_max 0 before row bound other (omega (arith, within, length-cells hash_key sketch bits packets))
+    independent_rows hash_key sketch bits packet cell_max 0 before row bound other (omega (arith, within, length-cells hash_key sketch bits packets))
     ∙ ap (λ r. row_after hash_key sketch bits r packet bound (row_of before row)) same
-    ∙ sym (cells_step hash_key sketch bits packets packet row few within)))
+    ∙ sym (row_step hash_key sketch bits packets packet row few within)))
     (cases_chained sketch.kind)
 
 rows_go_on : (hash_key : List ℕ) (sketch : Sketch) (bits : ℕ) (before packets : List Packet) → bits ≤ 32

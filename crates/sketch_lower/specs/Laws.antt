@@ -1,5 +1,6 @@
 -- What holds of the cells of every task and of its entries, under every key and for all packets.
-use Rattle.std.specs.Prelude.{◌≡◌, ℕ, ◌+◌, ◌^◌, ◌<◌, ◌≤◌, List, [], ◌∷◌, ◌++◌, replicate, slice_index, Option, None}
+use Rattle.std.specs.Prelude.{◌≡◌, ℕ, ◌+◌, ◌^◌, ◌<◌, ◌≤◌, List, [], ◌∷◌, ◌++◌, map, replicate, slice_index, Option, None}
+use Rattle.std.specs.List.{range_with_len}
 use Rattle.pkt_headers.specs.declared.packets.Packet.{Packet}
 use Rattle.addr_translate.specs.Blocks.{Block}
 use Rattle.group_keys.specs.declared.uses.KeyUse.{KeyUse}
@@ -15,14 +16,15 @@ use Rattle.sketch_lower.specs.Operations.{start_of, operation_at, row_after, row
 abbrev pub CellsStart : Type 0
 CellsStart = (hash_key : List ℕ) (sketch : Sketch) (bits : ℕ) → cells_of hash_key sketch bits [] ≡ started sketch bits
 
--- one packet more makes one operation in each row, at its place, and leaves all other cells
+-- one packet more makes one operation in each row, at the row's place for it, under the bound that the row finds; there are no
+-- other rows, and all other cells stay
 abbrev pub CellsStep : Type 0
-CellsStep = (hash_key : List ℕ) (sketch : Sketch) (bits : ℕ) (packets : List Packet) (packet : Packet) (row : ℕ)
+CellsStep = (hash_key : List ℕ) (sketch : Sketch) (bits : ℕ) (packets : List Packet) (packet : Packet)
     → bits ≤ 32
-    → row < sketch.rows
     → let before = cells_of hash_key sketch bits packets in
-    row_of (cells_of hash_key sketch bits (packets ++ packet ∷ [])) row
-    ≡ row_after hash_key sketch bits row packet (bound_at hash_key sketch bits before packet row) (row_of before row)
+    cells_of hash_key sketch bits (packets ++ packet ∷ [])
+    ≡ map (λ row. row_after hash_key sketch bits row packet (bound_at hash_key sketch bits before packet row) (row_of before row))
+    (range_with_len 0 sketch.rows)
 
 -- the carry of a row of SuMax-Sum is the bound that the next row finds
 abbrev pub CarryIsBound : Type 0
@@ -34,7 +36,7 @@ CarryIsBound = (hash_key : List ℕ) (sketch : Sketch) (bits : ℕ) (packets : L
     (slice_index (row_of before row) (index_at hash_key sketch bits row packet))
     ≡ bound_at hash_key sketch bits before packet (row + 1)
 
--- what a row's operations leave of its registers are its cells
+-- what a row's operations leave of its registers are its cells, where each packet finds the bound that the cells leave it
 abbrev pub RowLeaves : Type 0
 RowLeaves = (hash_key : List ℕ) (sketch : Sketch) (bits : ℕ) (packets : List Packet) (row : ℕ)
     → bits ≤ 32
@@ -55,7 +57,8 @@ LoweredOperation = (hash_key : List ℕ) (sketch : Sketch) (bits row : ℕ) (key
     → operation_by (entry_of sketch row keys region before).micro (row_hash_at hash_key sketch row packet) bits packet bound
     ≡ operation_at hash_key sketch bits row packet bound
 
--- what the operations of a lowered row leave of the registers of its region are the cells of the row
+-- what the operations of a lowered row leave of the registers of its region are the cells of the row, where each packet finds, as
+-- the carry from another row, the bound that the cells leave it
 abbrev pub EntryLeaves : Type 0
 EntryLeaves = (hash_key : List ℕ) (sketch : Sketch) (packets : List Packet) (row : ℕ) (keys : KeyUse) (region : Block) (before : Option ℕ)
     → region.bits ≤ 32

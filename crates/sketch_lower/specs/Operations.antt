@@ -1,5 +1,5 @@
 -- The operations that the rows of a task make, by the kind of its sketch, on registers that stand for its cells.
-use Rattle.std.specs.Prelude.{ℕ, ◌+◌, ◌^◌, ◌<◌, List, [], ◌∷◌, ◌++◌, replicate, slice_index, slice_set}
+use Rattle.std.specs.Prelude.{ℕ, ◌+◌, ◌^◌, List, [], ◌∷◌, ◌++◌, replicate, slice_index, slice_set}
 use Rattle.std.specs.List.{fold}
 use Rattle.pkt_headers.specs.declared.packets.Packet.{Packet}
 use Rattle.stateful_ops.specs.declared.ops.Op.{Op}
@@ -68,9 +68,3 @@ started sketch bits = replicate sketch.rows (replicate (2 ^ bits) (start_of sket
 -- and after these packets
 unfoldable pub rows_left : List ℕ → Sketch → ℕ → List Packet → List (List ℕ)
 rows_left hash_key sketch bits packets = fold (passed hash_key sketch bits) (started sketch bits) packets
-
--- the numbers of a packet fit their types
-pub record IsPacket (packet : Packet) : Type 0 where
-  pub len : packet.len < 2 ^ 32
-  pub ttl : packet.ttl < 2 ^ 8
-  pub flags : packet.flags < 2 ^ 8

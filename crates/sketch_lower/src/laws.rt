@@ -7,7 +7,7 @@ pub fn cells_start()
     ensures { CellsStart }
 {}
 
-/// One packet more is one operation in each row, at the packet's place.
+/// One packet more is one operation in each row, at the packet's place, and nothing else.
 #[tactic(auto, using(crate::proofs::CellLemmas::cells_step))]
 pub fn cells_step()
     ensures { CellsStep }
@@ -19,7 +19,8 @@ pub fn carry_is_bound()
     ensures { CarryIsBound }
 {}
 
-/// What the operations of a row leave of its registers are its cells.
+/// What the operations of a row leave of its registers are its cells, where each packet finds the
+/// bound that the cells leave it.
 #[tactic(auto, using(crate::proofs::RowLemmas::row_leaves))]
 pub fn row_leaves()
     ensures { RowLeaves }
@@ -38,7 +39,8 @@ pub fn lowered_operation()
     ensures { LoweredOperation }
 {}
 
-/// What the operations of a lowered row leave of the registers of its region are its cells.
+/// What the operations of a lowered row leave of the registers of its region are its cells, where
+/// each packet finds, as the carry from another row, the bound that the cells leave it.
 #[tactic(auto, using(crate::proofs::LeftLemmas::entry_leaves))]
 pub fn entry_leaves()
     ensures { EntryLeaves }

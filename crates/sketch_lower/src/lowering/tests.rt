@@ -1,4 +1,5 @@
 //! The entry of a row of each kind.
+ghost use Rattle.std.specs.Prelude.{◌≡◌, IfSome};
 
 use super::{lower, start_value};
 use addr_translate::Region;
@@ -62,7 +63,9 @@ const ROWS: [(Kind, Attr, Code, First, u32); 8] = [
     ),
 ];
 
-fn task_of(kind: Kind, rows: u32, attr: Attr) -> Option<Task> {
+fn task_of(kind: Kind, rows: u32, attr: Attr) -> Option<Task>
+    ensures { IfSome result (λ task. task.rows ≡ rows) }
+{
     let name = Name::parse(b"t")?;
     let key = parse_key(b"src_ip").ok()?;
     let filter = Filter::parse(b"proto:6").ok()?;
@@ -85,7 +88,6 @@ fn first_row_of_each_kind(rt: HostRuntime) -> Result<(), Fail> {
             region: REGION,
             micro,
         };
-        assert_eq!(rt; task.rows(), 1);
         assert_eq!(rt; lower(&task, 0, KEYS, REGION, None), wanted);
         assert_eq!(rt; start_value(kind), start);
     }
@@ -95,7 +97,6 @@ fn first_row_of_each_kind(rt: HostRuntime) -> Result<(), Fail> {
 #[test]
 fn second_row_of_sumax_sum(rt: HostRuntime) -> Result<(), Fail> {
     let task = task_of(Kind::SumaxSum, 2, Attr::Packets).ok_or("a task")?;
-    assert_eq!(rt; task.rows(), 2);
     let entry = lower(&task, 1, KEYS, REGION, Some(4));
     assert_eq!(rt; entry.micro.second, Second::Carry { array: 4 });
     assert_eq!(rt; entry.row, 1);
