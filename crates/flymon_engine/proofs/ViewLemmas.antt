@@ -1,12 +1,11 @@
 -- The live task as the one task of a view.
-use Rattle.std.proofs.Common.{◌≡◌, ℕ, ap₂, ◌+◌, ◌^◌, ◌<◌, ◌≤◌, Bool, true, false, List, [], ◌∷◌, length, Option, None, Some, IfSome, position, refl, sym, ap, ◌∙◌, subst, arith, IfOk, Result, Ok, Err, option_map}
+use Rattle.std.proofs.Common.{◌≡◌, ℕ, suc, ap₂, ◌+◌, ◌^◌, ◌<◌, ◌≤◌, Bool, true, false, List, [], ◌∷◌, length, Option, None, Some, IfSome, position, refl, sym, ap, ◌∙◌, subst, arith, IfOk, Result, Ok, Err, option_map}
 use Rattle.std.specs.Prelude.{is_some, slice_index_or}
 use Rattle.std.specs.Str.{bytes_eq}
 use Rattle.std.proofs.Math.Pow.{pow_mono}
 use Rattle.std.proofs.lemmas.List.FromFn.{get_or-map-range_with_len, length-map-range_with_len}
 use Rattle.addr_translate.specs.Blocks.{Block}
-use Rattle.addr_translate.specs.Geometry.{bits_of, array_count}
-use Rattle.addr_translate.proofs.GeometryLemmas as plans
+use Rattle.addr_translate.specs.Geometry.{bits_of, array_count, groups_ended}
 use Rattle.reg_file.specs.Registers.{Contents, Dims}
 use Rattle.reg_file.specs.declared.traits.DeviceFault.{DeviceFault}
 use Rattle.sketch_defs.specs.Tasks.{Sketch}
@@ -110,7 +109,17 @@ registers_in job side at row index (Ok value) (Some told) inside below has is = 
 -- ---- the view is fit
 
 geometry_bits : (array : ℕ) → array < 9 → bits_of default_geometry array ≡ 10
-geometry_bits array few = plans.bits_are 3 (record { cmus = 3; units = 3; bits = 10 }) array (omega arith) few
+unfolding groups_ended
+geometry_bits 0 few = refl
+geometry_bits 1 few = refl
+geometry_bits 2 few = refl
+geometry_bits 3 few = refl
+geometry_bits 4 few = refl
+geometry_bits 5 few = refl
+geometry_bits 6 few = refl
+geometry_bits 7 few = refl
+geometry_bits 8 few = refl
+geometry_bits (suc (suc (suc (suc (suc (suc (suc (suc (suc array))))))))) few = absurd (omega (arith, few))
 
 -- a register file of this shape has the arrays of the geometry
 pub shaped_geometry : (dims : Dims) (arrays : ℕ) → dims ≡ record { arrays = arrays; bits = 10 } → arrays ≡ array_count default_geometry → IsShaped default_geometry dims

@@ -12,7 +12,7 @@ use Rattle.flymon_engine.specs.Script.{Job}
 
 -- 3 groups of 3 arrays of 1,024 registers, with 3 hash units each
 abbrev pub default_geometry : Geometry
-default_geometry = equal_geometry 3 (record { cmus = 3; units = 3; bits = 10 })
+default_geometry = equal_geometry 3 (record { cmus = 3; units = 3; bits = 10 }) 5
 
 -- the registers of an array
 abbrev pub array_size : ℕ

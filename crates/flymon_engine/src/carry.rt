@@ -46,10 +46,7 @@ pub(crate) fn carry_all<R: RegFile, O: Sink>(
         (text_of live.now.hash_key (script_at live.now commands.now) frames.now.packets.items frames.now.fault) result (O.sent out.new)) }
     ensures fault { FaultsBy (fault_met (script_at live.now commands.now) frames.now.packets.items frames.now.fault) result }
 {
-    match add(live, regs, out) {
-        Ok(()) => {}
-        Err(halt) => return Err(halt),
-    }
+    add(live, regs, out)?;
     carry_commands(
         live,
         commands,
@@ -88,10 +85,7 @@ fn carry_commands<R: RegFile, O: Sink>(
 {
     let mut taken = 0;
     'commands: for command in commands {
-        match carry_one(live, command, packets, fault, taken, reader, regs, out) {
-            Ok(next) => taken = next,
-            Err(halt) => return Err(halt),
-        }
+        taken = carry_one(live, command, packets, fault, taken, reader, regs, out)?;
     }
     Ok(())
 }
@@ -178,13 +172,11 @@ fn take_packets<R: RegFile, O: Sink>(
     let left = packets.len() - taken;
     let count = left.min(asked);
     pass(live, packets, taken, taken + count, regs);
-    match damage(fault, left, asked) {
-        Some(fault) => Err(Halt::Damage(fault)),
-        None => match send(out, &line_packets(count)) {
-            Ok(()) => Ok(taken + count),
-            Err(halt) => Err(halt),
-        },
+    if let Some(fault) = damage(fault, left, asked) {
+        return Err(Halt::Damage(fault));
     }
+    send(out, &line_packets(count))?;
+    Ok(taken + count)
 }
 
 /// One command, by the packets that were taken before it; answers how many are taken behind it.
@@ -218,13 +210,11 @@ fn carry_one<R: RegFile, O: Sink>(
     ensures sent { IfSome (R.contents regs.new) (λ _. SendsBy (O.sent out.old)
         (written live.now.hash_key (job_at live.now) fault (state_at (job_at live.now) packets.now taken) command.now) result (O.sent out.new)) }
 {
-    match asked_for(command) {
-        Some(asked) => take_packets(live, asked, packets, fault, taken, regs, out),
-        None => match read_out(live, command, reader, regs, out) {
-            Ok(()) => Ok(taken),
-            Err(halt) => Err(halt),
-        },
+    if let Some(asked) = asked_for(command) {
+        return take_packets(live, asked, packets, fault, taken, regs, out);
     }
+    read_out(live, command, reader, regs, out)?;
+    Ok(taken)
 }
 
 /// How many packets the command asks for, where it asks for packets.

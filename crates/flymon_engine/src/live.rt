@@ -17,7 +17,7 @@ ghost use Rattle.flymon_engine.specs.Steps.{call_on, calls_on, matched};
 
 use crate::operation_of_entry::operation;
 use crate::task::LiveTask;
-use addr_translate::{Region, Shape, index};
+use addr_translate::{GroupShape, Region, Shape, index};
 use group_keys::KeyUse;
 use hash_units::{HashKey, hash, row_hash};
 use pkt_headers::Packet;
@@ -26,12 +26,16 @@ use sketch_defs::Task;
 use sketch_lower::{lower, start_value};
 
 /// 9 arrays of 1,024 registers in 3 groups, each with 3 hash units.
-pub(crate) const DEFAULT_SHAPE: Shape = Shape {
-    groups: 3,
-    cmus: 3,
-    units: 3,
-    bits: 10,
-};
+pub(crate) fn default_shape() -> Shape
+    ensures { result ≡ default_geometry }
+{
+    let group = GroupShape {
+        cmus: 3,
+        units: 3,
+        bits: 10,
+    };
+    Shape::equal(3, group, 5)
+}
 
 /// The first hash unit of a group.
 pub(crate) const FIRST_UNIT: KeyUse = KeyUse::Single { unit: 0 };

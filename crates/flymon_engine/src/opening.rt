@@ -57,14 +57,9 @@ fn open_files<F: Files>(alloc: Global, names: Names<'_>, files: &mut F) -> Resul
     ensures strays { KeepsStrays (cond (F.last files.new == 1) names.entry.script.now names.entry.capture.now)
         (F.directory files.new).names (F.strays files.old) (F.strays files.new) (stop_in result) }
 {
-    let session = match session_from(alloc, files, names.script) {
-        Ok(session) => session,
-        Err(stop) => return Err(stop),
-    };
-    match frames_from(alloc, files, names.capture) {
-        Ok(frames) => Ok(Opened { session, frames }),
-        Err(stop) => Err(stop),
-    }
+    let session = session_from(alloc, files, names.script)?;
+    let frames = frames_from(alloc, files, names.capture)?;
+    Ok(Opened { session, frames })
 }
 
 /// The session of the script of this name.

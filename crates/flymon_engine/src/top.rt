@@ -10,7 +10,7 @@ ghost use Rattle.flymon_engine.specs.Expected.{expected_for};
 ghost use Rattle.flymon_engine.specs.Clauses.{status_in, StopsAs, IsVerdict, SendsText, MakesCalls, LaysOut, IsInPlace, KeepsNames, SendsReport};
 
 use crate::carry::carry_all;
-use crate::live::DEFAULT_SHAPE;
+use crate::live::default_shape;
 use crate::opening::{Opened, open};
 use crate::report::report;
 use crate::status::Status;
@@ -87,10 +87,8 @@ fn execute<F: Files, R: RegFile, O: Sink>(
     ensures device { status_in result ≡ Status.DeviceFault → Rose (R.faults regs.old) (R.faults regs.new) }
     ensures names { KeepsNames (form_of (texts_of words.now)) (F.directory files.new).names (F.last files.new) (status_in result) (F.strays files.old) (F.strays files.new) }
 {
-    match open(alloc, words, files) {
-        Ok(opened) => carry(alloc, &opened, regs, out),
-        Err(stop) => Err(stop),
-    }
+    let opened = open(alloc, words, files)?;
+    carry(alloc, &opened, regs, out)
 }
 
 /// Shapes the registers, and carries out the script on them.
@@ -109,10 +107,11 @@ fn carry<R: RegFile, O: Sink>(
     ensures output { status_in result ≡ Status.OutputFault → Rose (O.faults out.old) (O.faults out.new) }
     ensures device { status_in result ≡ Status.DeviceFault → Rose (R.faults regs.old) (R.faults regs.new) }
 {
-    let Ok(mut reader) = Readout::new(alloc, DEFAULT_SHAPE.bits) else {
+    let shape = default_shape();
+    let Ok(mut reader) = Readout::new(alloc, shape.greatest_bits()) else {
         return Err(Stop::Memory);
     };
-    match regs.shape(alloc, DEFAULT_SHAPE.arrays(), DEFAULT_SHAPE.bits) {
+    match regs.shape(alloc, shape.arrays(), shape.greatest_bits()) {
         Ok(()) => {}
         Err(ShapeFail::Memory) => return Err(Stop::Memory),
         Err(ShapeFail::Device) => return Err(Stop::Device),

@@ -7,7 +7,7 @@ ghost use Rattle.readout.specs.PlacedTasks.{placed_task_at, place_at, is_named, 
 ghost use Rattle.flymon_engine.specs.Cells.{default_geometry, placed_task_of};
 ghost use Rattle.flymon_engine.specs.Live.{job_at, mask_at, free_at, largest_at, rows_on};
 
-use crate::live::{DEFAULT_SHAPE, FIRST_UNIT};
+use crate::live::{FIRST_UNIT, default_shape};
 use crate::task::LiveTask;
 use addr_translate::{Region, Shape};
 use key_mask::Mask;
@@ -34,7 +34,7 @@ impl TaskView for LiveTask {
     fn shape(&self) -> Shape
         ensures { result ≡ default_geometry }
     {
-        DEFAULT_SHAPE
+        default_shape()
     }
 
     fn count(&self) -> usize {
@@ -71,7 +71,7 @@ impl TaskView for LiveTask {
         requires { group < 3 }
         ensures { result ≡ mask_at (job_at self.now) group unit }
     {
-        if unit == 0 && DEFAULT_SHAPE.first_of(group) < self.task.rows() {
+        if unit == 0 && default_shape().first_of(group) < self.task.rows() {
             Some(*self.task.key())
         } else {
             None

@@ -1,3 +1,4 @@
+use Rattle.std.proofs.lemmas.Result.{err_from_is_err_and}
 use Rattle.std.proofs.Common.{◌≡◌, ◌+◌, ℕ, [], drop, take, length, rules, refl, ◌∙◌, ap, arith, IfSome, sym, subst}
 use Rattle.outside.proofs.ToldLemmas.{stays_same, told_then}
 use Rattle.outside.proofs.SentLemmas.{none_came}
@@ -27,8 +28,8 @@ commands-init g c =
           (text_from c.args.live.now.hash_key job c.args.fault (start c.args.packets.now) c.args.commands.now);
     }
 
-pub returns-in-Err : goal.returns-in-Err
-returns-in-Err g c =
+pub returns-in_err-taken : goal.returns-in_err-taken
+returns-in_err-taken g c =
     let r = g.R.RegFile in let o = g.O.Sink in let job = job_at c.args.live.now in let hash_key = c.args.live.now.hash_key in
     let packets = c.args.packets.now in let commands = c.args.commands.now in let fault = c.args.fault in
     let command = c.command-item.result in
@@ -37,31 +38,31 @@ returns-in-Err g c =
     let next = c.commands.taken + length (taken_by now command) in
     let behind = drop (index + 1) commands in
     let inside = c.commands-test.true in let is = c.command-item.is in
-    record {
+    let p = err_from_is_err_and c.from_residual.result c.from_residual.ensures.1 in rw (p.1, p.2) (record {
       later = search rules;
       regs_later = search rules;
       cause = cause_later (o.faults c.args.out.now) (o.faults c.commands.out) (o.faults c.carry_one.new.out)
-          (r.faults c.args.regs.now) (r.faults c.commands.regs) (r.faults c.carry_one.new.regs) fault c.in-Err.halt
-          c.commands.invariant.later c.commands.invariant.regs_later c.in-Err.ensures.cause;
+          (r.faults c.args.regs.now) (r.faults c.commands.regs) (r.faults c.carry_one.new.regs) fault c.in_err-taken.field-0.0
+          c.commands.invariant.later c.commands.invariant.regs_later c.in_err-taken.ensures.cause;
       told = told_then (r.contents c.args.regs.now) (r.contents c.commands.regs) (r.contents c.carry_one.new.regs) (λ x y z p q. tt)
           c.commands.invariant.told c.carry_one.ensures.told;
-      contents = lays_stop c.in-Err.halt (r.contents c.carry_one.new.regs) hash_key (job_at c.args.live.now) packets next (meets now fault command)
-          (state_from job fault now (drop index commands)) (state_from job fault (start packets) commands) c.in-Err.ensures.met
-          (λ here. state_met job fault packets c.commands.taken next commands index command inside is refl here) c.commands.invariant.last c.in-Err.ensures.contents;
-      calls = calls_stop c.in-Err.halt (r.calls c.args.regs.now) (r.calls c.commands.regs) (r.calls c.carry_one.new.regs)
+      contents = lays_stop c.in_err-taken.field-0.0 (r.contents c.carry_one.new.regs) hash_key (job_at c.args.live.now) packets next (meets now fault command)
+          (state_from job fault now (drop index commands)) (state_from job fault (start packets) commands) c.in_err-taken.ensures.met
+          (λ here. state_met job fault packets c.commands.taken next commands index command inside is refl here) c.commands.invariant.last c.in_err-taken.ensures.contents;
+      calls = calls_stop c.in_err-taken.field-0.0 (r.calls c.args.regs.now) (r.calls c.commands.regs) (r.calls c.carry_one.new.regs)
           (calls_from hash_key job fault (start packets) commands) (calls_from hash_key job fault now (drop index commands))
           (calls_of hash_key job now command) (calls_from hash_key job fault (state_at job packets next) behind) (meets now fault command)
           (calls_step hash_key job fault packets c.commands.taken next commands index command inside is refl)
-          c.in-Err.ensures.met c.commands.invariant.calls c.carry_one.ensures.calls;
-      sent = sent_stop c.in-Err.halt (r.contents c.commands.regs) (r.contents c.carry_one.new.regs) (o.sent c.args.out.now) (o.sent c.commands.out) (o.sent c.carry_one.new.out)
+          c.in_err-taken.ensures.met c.commands.invariant.calls c.carry_one.ensures.calls;
+      sent = sent_stop c.in_err-taken.field-0.0 (r.contents c.commands.regs) (r.contents c.carry_one.new.regs) (o.sent c.args.out.now) (o.sent c.commands.out) (o.sent c.carry_one.new.out)
           (text_from hash_key job fault (start packets) commands) (text_from hash_key job fault now (drop index commands))
           (written hash_key job fault now command) (text_from hash_key job fault (state_at job packets next) behind) (meets now fault command) c.carry_one.ensures.told
           (text_step hash_key job fault packets c.commands.taken next commands index command inside is refl)
-          c.in-Err.ensures.met c.commands.invariant.sent c.in-Err.ensures.sent;
-      fault = faults_stop c.in-Err.halt (o.faults c.commands.out) (o.faults c.carry_one.new.out) (r.faults c.commands.regs) (r.faults c.carry_one.new.regs)
-          fault (fault_from job fault now (drop index commands)) (fault_from job fault (start packets) commands) (meets now fault command) c.in-Err.ensures.met
-          (λ here. fault_met_here job fault packets c.commands.taken next commands index command inside is refl here) c.commands.invariant.met c.in-Err.ensures.cause;
-    }
+          c.in_err-taken.ensures.met c.commands.invariant.sent c.in_err-taken.ensures.sent;
+      fault = faults_stop c.in_err-taken.field-0.0 (o.faults c.commands.out) (o.faults c.carry_one.new.out) (r.faults c.commands.regs) (r.faults c.carry_one.new.regs)
+          fault (fault_from job fault now (drop index commands)) (fault_from job fault (start packets) commands) (meets now fault command) c.in_err-taken.ensures.met
+          (λ here. fault_met_here job fault packets c.commands.taken next commands index command inside is refl here) c.commands.invariant.met c.in_err-taken.ensures.cause;
+    })
 
 pub commands-preserved : goal.commands-preserved
 commands-preserved g c =
@@ -72,7 +73,7 @@ commands-preserved g c =
     let now = state_at job packets c.commands.taken in
     let behind = drop (index + 1) commands in
     let inside = c.commands-test.true in let is = c.command-item.is in
-    let on = c.in-Ok.ensures.met in
+    let on = c.in_ok-taken.ensures.met in
     record {
       later = search rules;
       regs_later = search rules;
@@ -80,24 +81,24 @@ commands-preserved g c =
       told = told_then (r.contents c.args.regs.now) (r.contents c.commands.regs) (r.contents c.carry_one.new.regs) (λ x y z p q. tt)
           c.commands.invariant.told c.carry_one.ensures.told;
       room = c.carry_one.ensures.room ∙ c.commands.invariant.room;
-      inside = c.in-Ok.ensures.inside;
-      cells = subst (λ (n : ℕ). IfSome (r.contents c.carry_one.new.regs) (AreCells hash_key job (matched job (take n packets)))) (sym c.in-Ok.ensures.next) c.in-Ok.ensures.contents;
-      last = state_on job fault packets c.commands.taken c.in-Ok.next commands index command inside is c.in-Ok.ensures.next on ∙ c.commands.invariant.last;
-      met = fault_on job fault packets c.commands.taken c.in-Ok.next commands index command inside is c.in-Ok.ensures.next on ∙ c.commands.invariant.met;
+      inside = c.in_ok-taken.ensures.inside;
+      cells = subst (λ (n : ℕ). IfSome (r.contents c.carry_one.new.regs) (AreCells hash_key job (matched job (take n packets)))) (sym c.in_ok-taken.ensures.next) c.in_ok-taken.ensures.contents;
+      last = state_on job fault packets c.commands.taken c.in_ok-taken.taken commands index command inside is c.in_ok-taken.ensures.next on ∙ c.commands.invariant.last;
+      met = fault_on job fault packets c.commands.taken c.in_ok-taken.taken commands index command inside is c.in_ok-taken.ensures.next on ∙ c.commands.invariant.met;
       calls = calls_more (r.calls c.args.regs.now) (r.calls c.commands.regs) (r.calls c.carry_one.new.regs)
           (calls_from hash_key job fault (start packets) commands) (calls_from hash_key job fault now (drop index commands))
-          (calls_of hash_key job now command) (calls_from hash_key job fault (state_at job packets c.in-Ok.next) behind)
+          (calls_of hash_key job now command) (calls_from hash_key job fault (state_at job packets c.in_ok-taken.taken) behind)
           (calls_on_more (calls_from hash_key job fault now (drop index commands)) (calls_of hash_key job now command)
-          (calls_from hash_key job fault (state_at job packets c.in-Ok.next) behind) (meets now fault command) on
-          (calls_step hash_key job fault packets c.commands.taken c.in-Ok.next commands index command inside is c.in-Ok.ensures.next))
+          (calls_from hash_key job fault (state_at job packets c.in_ok-taken.taken) behind) (meets now fault command) on
+          (calls_step hash_key job fault packets c.commands.taken c.in_ok-taken.taken commands index command inside is c.in_ok-taken.ensures.next))
           c.commands.invariant.calls c.carry_one.ensures.calls;
       sent = sent_more (r.contents c.commands.regs) (r.contents c.carry_one.new.regs) (o.sent c.args.out.now) (o.sent c.commands.out) (o.sent c.carry_one.new.out)
           (text_from hash_key job fault (start packets) commands) (text_from hash_key job fault now (drop index commands))
-          (written hash_key job fault now command) (text_from hash_key job fault (state_at job packets c.in-Ok.next) behind) c.carry_one.ensures.told
+          (written hash_key job fault now command) (text_from hash_key job fault (state_at job packets c.in_ok-taken.taken) behind) c.carry_one.ensures.told
           (text_on (text_from hash_key job fault now (drop index commands)) (written hash_key job fault now command)
-          (text_from hash_key job fault (state_at job packets c.in-Ok.next) behind) (meets now fault command) on
-          (text_step hash_key job fault packets c.commands.taken c.in-Ok.next commands index command inside is c.in-Ok.ensures.next))
-          c.commands.invariant.sent c.in-Ok.ensures.sent;
+          (text_from hash_key job fault (state_at job packets c.in_ok-taken.taken) behind) (meets now fault command) on
+          (text_step hash_key job fault packets c.commands.taken c.in_ok-taken.taken commands index command inside is c.in_ok-taken.ensures.next))
+          c.commands.invariant.sent c.in_ok-taken.ensures.sent;
     }
 
 pub returns : goal.returns

@@ -15,9 +15,9 @@ returns-in-Some-clause-sent g c =
     (sym (written_taken c.args.command.now c.in-Some.asked live.hash_key job c.args.fault c.args.packets.now c.args.taken (sym c.asked_for.ensures ∙ c.in-Some.is)))
     c.take_packets.ensures.sent)
 
-pub returns-in-Ok-clause-sent : goal.returns-in-Ok-clause-sent
-returns-in-Ok-clause-sent g c =
+pub returns-clause-sent : goal.returns-clause-sent
+returns-clause-sent g c =
     let r = g.R.RegFile in let o = g.O.Sink in let live = c.args.live.now in let job = job_at live in
     subst (λ (text : List ℕ). IfSome (r.contents c.read_out.new.regs) (λ _. Grows (o.sent c.args.out.now) text (o.sent c.read_out.new.out)))
-    (sym (written_told c.args.command.now live.hash_key job c.args.fault c.args.packets.now c.args.taken (sym c.asked_for.ensures ∙ c.in-None.is)))
-    (c.in-Ok.ensures.sent (state_at job c.args.packets.now c.args.taken) c.requires.cells)
+    (sym (written_told c.args.command.now live.hash_key job c.args.fault c.args.packets.now c.args.taken (sym c.asked_for.ensures ∙ c.in_default.is)))
+    (c.in_ok-read_out.ensures.sent (state_at job c.args.packets.now c.args.taken) c.requires.cells)
