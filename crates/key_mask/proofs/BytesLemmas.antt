@@ -1,10 +1,10 @@
 -- Lists of bytes, taken bit by bit.
-use Rattle.std.proofs.Common.{◌≡◌, ℕ, zero, suc, ◌<◌, min, List, [], ◌∷◌, length, get_or, bit_and, bit_or, bit_xor, refl, ap, ap₂, sym, ◌∙◌, arith}
+use Rattle.std.proofs.Common.{◌≡◌, ℕ, zero, suc, ◌<◌, min, List, [], ◌∷◌, length, get_or, bit_and, bit_xor, refl, ap, ap₂, sym, ◌∙◌, arith}
 use Rattle.std.proofs.lemmas.List.{ext_get_or}
-use Rattle.std.proofs.lemmas.Nat.{and_comm, or_comm, xor_comm, and_assoc}
+use Rattle.std.proofs.lemmas.Nat.{and_assoc}
 use Rattle.std.proofs.lemmas.Nat.Bits.{same_from_bits, bit_at_and, bit_at_xor, bit_at-lt}
-use Rattle.std.specs.Int.Bits.{and_self, and_zero_l, and_zero_r, xor_assoc}
-use Rattle.key_mask.specs.Bytes.{bytewise, and_bytes, or_bytes, xor_bytes}
+use Rattle.std.specs.Int.Bits.{and_self, and_zero_l, and_zero_r}
+use Rattle.key_mask.specs.Bytes.{bytewise, and_bytes, xor_bytes}
 
 -- ---- any operation
 
@@ -28,12 +28,6 @@ bytewise_all f xs ys zs long same each =
     ext_get_or 0 zs (bytewise f xs ys) whole
     (λ k h. each k h ∙ sym (get_or-bytewise f xs ys k (omega arith) (omega arith)))
 
-bytewise_comm : (f : ℕ → ℕ → ℕ) → ((x y : ℕ) → f x y ≡ f y x) → (xs ys : List ℕ) → bytewise f xs ys ≡ bytewise f ys xs
-bytewise_comm f comm [] [] = refl
-bytewise_comm f comm [] (y ∷ ys) = refl
-bytewise_comm f comm (x ∷ xs) [] = refl
-bytewise_comm f comm (x ∷ xs) (y ∷ ys) = ap₂ (λ z zs. z ∷ zs) (comm x y) (bytewise_comm f comm xs ys)
-
 bytewise_assoc : (f : ℕ → ℕ → ℕ) → ((x y z : ℕ) → f (f x y) z ≡ f x (f y z)) → (xs ys zs : List ℕ)
     → bytewise f (bytewise f xs ys) zs ≡ bytewise f xs (bytewise f ys zs)
 bytewise_assoc f assoc [] ys zs = refl
@@ -46,9 +40,6 @@ bytewise_self f self [] = refl
 bytewise_self f self (x ∷ xs) = ap₂ (λ z zs. z ∷ zs) (self x) (bytewise_self f self xs)
 
 -- ---- and
-
-pub and_bytes_comm : (xs ys : List ℕ) → and_bytes xs ys ≡ and_bytes ys xs
-and_bytes_comm xs ys = bytewise_comm bit_and and_comm xs ys
 
 pub and_bytes_assoc : (xs ys zs : List ℕ) → and_bytes (and_bytes xs ys) zs ≡ and_bytes xs (and_bytes ys zs)
 and_bytes_assoc xs ys zs = bytewise_assoc bit_and (λ x y z. and_assoc z x y) xs ys zs
@@ -67,16 +58,7 @@ get_or-and_bytes (x ∷ xs) (y ∷ ys) (suc k) = get_or-and_bytes xs ys k
 pub and_bytes_twice : (xs ys : List ℕ) → and_bytes (and_bytes xs ys) ys ≡ and_bytes xs ys
 and_bytes_twice xs ys = and_bytes_assoc xs ys ys ∙ ap (and_bytes xs) (and_bytes_self ys)
 
--- ---- or, xor
-
-pub or_bytes_comm : (xs ys : List ℕ) → or_bytes xs ys ≡ or_bytes ys xs
-or_bytes_comm xs ys = bytewise_comm bit_or or_comm xs ys
-
-pub xor_bytes_comm : (xs ys : List ℕ) → xor_bytes xs ys ≡ xor_bytes ys xs
-xor_bytes_comm xs ys = bytewise_comm bit_xor xor_comm xs ys
-
-pub xor_bytes_assoc : (xs ys zs : List ℕ) → xor_bytes (xor_bytes xs ys) zs ≡ xor_bytes xs (xor_bytes ys zs)
-xor_bytes_assoc xs ys zs = bytewise_assoc bit_xor xor_assoc xs ys zs
+-- ---- xor
 
 -- past the ends of lists that are as long stands 0
 pub get_or-xor_bytes : (xs ys : List ℕ) (k : ℕ) → length xs ≡ length ys

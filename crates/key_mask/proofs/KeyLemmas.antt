@@ -1,44 +1,211 @@
--- How a key is read item by item.
-use Rattle.std.proofs.Common.{Err, IsTrue, List, Ok, Option, ap, arith, get_or, length, refl, set, slice_index, slice_set, ℕ, ◌+◌, ◌<◌, ◌==◌, ◌∙◌, ◌≡◌, ◌≢◌}
-use Rattle.std.proofs.lemmas.List.{get_or-set_same}
-use Rattle.key_mask.proofs.PartLemmas.{number_below, length_positive}
-use Rattle.texts.specs.Cuts.{front, back, parts, parts_behind}
-use Rattle.texts.proofs.CutLemmas.{parts_first}
+-- Keys, printed and read.
+use Rattle.std.proofs.Common.{◌≡◌, ◌≢◌, ℕ, zero, suc, ◌+◌, ◌-◌, ◌^◌, ◌<◌, ◌≤◌, ◌==◌, ◌&&◌, Bool, true, false, not, cond, List, [], ◌∷◌, ◌++◌, length, take, replicate, get_or, set, slice_index, slice_set, Option, None, Some, ok_or, Result, Ok, Err, IfOk, IsTrue, refl, ap, sym, ◌∙◌, subst, arith, ⊎_elim, eq-eqb}
+use Rattle.std.specs.Fmt.{decimal}
+use Rattle.std.specs.List.{join_with_byte, list_all}
+use Rattle.std.proofs.lemmas.Bool.{cases_eq, false≢true, ne_eqb}
+use Rattle.std.proofs.lemmas.Bool.Decides.{nat_tests}
+use Rattle.std.proofs.lemmas.List.{take_more, take_all, length-take-le, get_or-set_same, length-set}
+use Rattle.texts.specs.Cuts.{front, back, parts}
 use Rattle.key_mask.specs.declared.fields.Field.{Field}
-use Rattle.key_mask.specs.declared.fields.Field.TheVariants.{SrcIp, DstIp, SrcPort, DstPort, Proto, Tos, EtherType}
-use Rattle.key_mask.specs.declared.keys.FieldKind.{FieldKind}
-use Rattle.key_mask.specs.Fields.{field_number, is_length}
-use Rattle.key_mask.specs.Masks.{AreLengths}
-use Rattle.key_mask.specs.Keys.{with_item, with_items, no_lengths}
+use Rattle.key_mask.specs.declared.fields.Field.TheVariants.{SrcIp, DstIp, SrcPort, DstPort, Proto, Tos, EtherType, SrcIp6, DstIp6}
+use Rattle.key_mask.specs.declared.items.FieldKind.{FieldKind}
+use Rattle.key_mask.specs.declared.items.FieldKind.TheVariants.{UnknownField, RepeatedField, BadPrefix}
+use Rattle.key_mask.specs.declared.items.FieldFault.{FieldFault}
+use Rattle.key_mask.specs.Fields.{fields, field_number, width_of, is_length, name_of}
+use Rattle.key_mask.specs.Masks.{AreLengths, no_lengths}
+use Rattle.key_mask.specs.Items.{◌>>=◌, at_place, field_named, fresh_field, is_slash, item_text, item_texts, items_text, prefix_in, prefix_text, with_items}
+use Rattle.key_mask.specs.Keys.{key_in, key_text, with_item}
+use Rattle.key_mask.proofs.ItemLemmas.{AreSteps, IsStep, items_again}
+use Rattle.texts.proofs.CutLemmas.{parts_first, parts_behind}
+use Rattle.key_mask.proofs.MaskLemmas.{none_stands}
+use Rattle.key_mask.proofs.PartLemmas.{number_below}
+use Rattle.key_mask.proofs.PrefixLemmas.{length_within, each_row, prefix_again, prefix_pass, prefix_some}
+use Rattle.key_mask.proofs.PrintLemmas.{cut_slash, is_plain, items_plain, name_found, name_plain, name_slashless, parts_joined}
 
-none_stands : (field : Field) → slice_index no_lengths (field_number field) ≡ 0
-none_stands SrcIp = refl
-none_stands DstIp = refl
-none_stands SrcPort = refl
-none_stands DstPort = refl
-none_stands Proto = refl
-none_stands Tos = refl
-none_stands EtherType = refl
+-- ---- an item is read as what it was printed of
 
-pub none_allowed : AreLengths no_lengths
-none_allowed = record { whole = refl; allowed = λ field some. absurd (some (none_stands field)) }
+item_again : (lengths : List ℕ) (field : Field) (n : ℕ) → slice_index lengths (field_number field) ≡ 0 → IsTrue (is_length field n)
+    → with_item lengths (item_text None field n) ≡ Ok (slice_set lengths (field_number field) n)
+unfolding with_item
+item_again lengths field n free fits =
+    let cuts = cut_slash (name_of field) (n == width_of field) (decimal n) (name_slashless field) in
+    rw (cuts.0, cuts.1, name_found field, free, prefix_again field n fits) refl
 
--- one item more
-pub item_read : (place : ℕ) (lengths text item : List ℕ) (rest : Option (List ℕ)) (next : List ℕ)
-    → item ≡ front (λ b. b == 44) text → rest ≡ back (λ b. b == 44) text → with_item lengths item ≡ Ok next
-    → with_items (place + (length item + 1)) next (parts_behind 44 rest) ≡ with_items place lengths (parts 44 text)
-item_read place lengths text item rest next p q e = rw (parts_first 44 text, ← p, ← q, e) refl
+-- ---- what stands after the first fields were read
 
--- the first item at fault
-pub item_fault : (place : ℕ) (lengths text item : List ℕ) (kind : FieldKind)
-    → item ≡ front (λ b. b == 44) text → with_item lengths item ≡ Err kind
-    → with_items place lengths (parts 44 text) ≡ Err (record { kind = kind; place = place })
-item_fault place lengths text item kind p e = rw (parts_first 44 text, ← p, e) refl
+-- the lengths of the first k fields, and none of the others
+abbrev pub first_lengths : List ℕ → ℕ → List ℕ
+first_lengths [] k = []
+first_lengths (n ∷ lengths) zero = 0 ∷ first_lengths lengths zero
+first_lengths (n ∷ lengths) (suc k) = n ∷ first_lengths lengths k
 
--- where a field stands, the mask is not empty
-pub set_stands : (lengths : List ℕ) (field : Field) (prefix : ℕ) → AreLengths lengths → IsTrue (is_length field prefix)
-    → slice_set lengths (field_number field) prefix ≢ no_lengths
-set_stands lengths field prefix known fits e =
-    let below : field_number field < length lengths = omega (arith, number_below field, known.whole) in
-    let none : get_or (set lengths (field_number field) prefix) (field_number field) 0 ≡ 0 = ap (λ xs. get_or xs (field_number field) 0) e ∙ none_stands field in
-    omega (arith, none, get_or-set_same lengths (field_number field) prefix 0 below, length_positive field prefix fits)
+pub free_next : (lengths : List ℕ) (k : ℕ) → get_or (first_lengths lengths k) k 0 ≡ 0
+free_next [] k = refl
+free_next (n ∷ lengths) zero = refl
+free_next (n ∷ lengths) (suc k) = free_next lengths k
+
+pub filled_next : (lengths : List ℕ) (k : ℕ) → k < length lengths → set (first_lengths lengths k) k (get_or lengths k 0) ≡ first_lengths lengths (suc k)
+filled_next [] k h = absurd (omega arith)
+filled_next (n ∷ lengths) zero h = refl
+filled_next (n ∷ lengths) (suc k) h = ap (λ ns. n ∷ ns) (filled_next lengths k (omega arith))
+
+pub kept_next : (lengths : List ℕ) (k : ℕ) → get_or lengths k 0 ≡ 0 → first_lengths lengths (suc k) ≡ first_lengths lengths k
+kept_next [] k e = refl
+kept_next (n ∷ lengths) zero e = ap (λ m. m ∷ first_lengths lengths zero) e
+kept_next (n ∷ lengths) (suc k) e = ap (λ ns. n ∷ ns) (kept_next lengths k e)
+
+pub first_all : (lengths : List ℕ) (k : ℕ) → length lengths ≤ k → first_lengths lengths k ≡ lengths
+first_all [] k h = refl
+first_all (n ∷ lengths) zero h = absurd (omega arith)
+first_all (n ∷ lengths) (suc k) h = ap (λ ns. n ∷ ns) (first_all lengths k (omega arith))
+
+pub first_none : (lengths : List ℕ) (count : ℕ) → length lengths ≡ count → first_lengths lengths 0 ≡ replicate {A = ℕ} count 0
+first_none [] zero e = refl
+first_none [] (suc count) e = absurd (omega arith)
+first_none (n ∷ lengths) zero e = absurd (omega arith)
+first_none (n ∷ lengths) (suc count) e = ap (λ ns. 0 ∷ ns) (first_none lengths count (omega arith))
+
+key_step : (lengths : List ℕ) → AreLengths lengths → (field : Field) (k : ℕ) → field_number field ≡ k → k < 9
+    → IsStep with_item None lengths (first_lengths lengths k) (first_lengths lengths (suc k)) field
+key_step lengths known field k number h = record {
+  absent = λ none. kept_next lengths k (ap (slice_index lengths) (sym number) ∙ none);
+  present = λ some.
+      item_again (first_lengths lengths k) field (slice_index lengths (field_number field)) (ap (slice_index (first_lengths lengths k)) number ∙ free_next lengths k) (known.allowed field some)
+      ∙ (λ i. Ok (slice_set (first_lengths lengths k) (number i) (slice_index lengths (number i))))
+      ∙ ap (λ found. Ok found) (filled_next lengths k (omega (arith, known.whole)));
+}
+
+key_steps : (lengths : List ℕ) → AreLengths lengths → AreSteps with_item None lengths (first_lengths lengths) 0 fields
+key_steps lengths known =
+    let step = key_step lengths known in (
+      step SrcIp 0 refl (omega arith),
+      (
+        step DstIp 1 refl (omega arith),
+        (
+          step SrcPort 2 refl (omega arith),
+          (
+            step DstPort 3 refl (omega arith),
+            (
+              step Proto 4 refl (omega arith),
+              (
+                step Tos 5 refl (omega arith),
+                (
+                  step EtherType 6 refl (omega arith),
+                  (
+                    step SrcIp6 7 refl (omega arith),
+                    (step DstIp6 8 refl (omega arith), tt),
+                  ),
+                ),
+              ),
+            ),
+          ),
+        ),
+      ),
+    )
+
+reads_all : (lengths : List ℕ) → AreLengths lengths → with_items with_item 0 no_lengths (item_texts None lengths fields) ≡ Ok lengths
+reads_all lengths known =
+    let none : first_lengths lengths 0 ≡ no_lengths = first_none lengths 9 known.whole in
+    let all : first_lengths lengths 9 ≡ lengths = first_all lengths 9 (omega (arith, known.whole)) in
+    subst (λ found. with_items with_item 0 found (item_texts None lengths fields) ≡ Ok lengths) none
+    (items_again with_item None lengths (first_lengths lengths) 0 fields (key_steps lengths known) 0 ∙ ap (λ found. Ok found) all)
+
+-- ---- the commas part the items
+
+key_plain : (lengths : List ℕ) → AreLengths lengths → (field : Field) → slice_index lengths (field_number field) ≢ 0
+    → list_all is_plain (item_text None field (slice_index lengths (field_number field))) ≡ true
+key_plain lengths known field some =
+    let n : ℕ = slice_index lengths (field_number field) in
+    let fits = length_within field n (known.allowed field some) in
+    let row = each_row field in
+    name_plain field (prefix_text field n) (prefix_pass is_plain refl (λ c low high. grind (arith, nat_tests)) field n (omega (arith, fits.few, row.few)))
+
+-- ---- what an item that was read says
+
+pub ok_bind : {A B E : Type 0} (o : Option A) (e : E) (f : A → Result B E) (y : B) → (ok_or o e >>= f) ≡ Ok y → (x : A) × (o ≡ Some x) × (f x ≡ Ok y)
+ok_bind None e f y h = absurd (let wrong : ⊥ = cc in wrong)
+ok_bind (Some x) e f y h = (x, refl, h)
+
+pub fresh_bind : {B : Type 0} (lengths : List ℕ) (field : Field) (f : Field → Result B FieldKind) (y : B) → (fresh_field lengths field >>= f) ≡ Ok y
+    → (slice_index lengths (field_number field) ≡ 0) × (f field ≡ Ok y)
+fresh_bind lengths field f y h =
+    ⊎_elim
+    (λ (e : slice_index lengths (field_number field) ≡ 0).
+    let t : (slice_index lengths (field_number field) == 0) ≡ true = eq-eqb (slice_index lengths (field_number field)) 0 e in (e, rw t at h))
+    (λ (ne : slice_index lengths (field_number field) ≢ 0).
+    let t : (slice_index lengths (field_number field) == 0) ≡ false = ne_eqb (slice_index lengths (field_number field)) 0 ne in
+    let wrong : (Err RepeatedField >>= f) ≡ Ok y = rw t at h in
+    absurd (let bad : ⊥ = cc in bad))
+    (cases_eq (slice_index lengths (field_number field)) 0)
+
+pub place_bind : {A B : Type 0} (place : ℕ) (r : Result A FieldKind) (f : A → Result B FieldFault) (y : B) → (at_place place r >>= f) ≡ Ok y
+    → (x : A) × (r ≡ Ok x) × (f x ≡ Ok y)
+place_bind place (Ok x) f y h = (x, refl, h)
+place_bind place (Err e) f y h = absurd (let wrong : ⊥ = cc in wrong)
+
+pub record IsRead (lengths item next : List ℕ) : Type 0 where
+  pub field : Field
+  pub prefix : ℕ
+  pub named : field_named (front is_slash item) ≡ Some field
+  pub free : slice_index lengths (field_number field) ≡ 0
+  pub prefix_is : prefix_in field (back is_slash item) ≡ Some prefix
+  pub next_is : slice_set lengths (field_number field) prefix ≡ next
+
+pub item_is_read : (lengths item next : List ℕ) → with_item lengths item ≡ Ok next → IsRead lengths item next
+unfolding with_item
+item_is_read lengths item next h =
+    let last : Field → ℕ → Result (List ℕ) FieldKind = λ field prefix. Ok (slice_set lengths (field_number field) prefix) in
+    let third : Field → Result (List ℕ) FieldKind = λ field. ok_or (prefix_in field (back is_slash item)) BadPrefix >>= last field in
+    let second : Field → Result (List ℕ) FieldKind = λ named. fresh_field lengths named >>= third in
+    let one = ok_bind (field_named (front is_slash item)) UnknownField second next h in
+    let two = fresh_bind lengths one.0 third next one.2 in
+    let three = ok_bind (prefix_in one.0 (back is_slash item)) BadPrefix (last one.0) next two.1 in
+    record { field = one.0; prefix = three.0; named = one.1; free = two.0; prefix_is = three.1; next_is = cc three.2 }
+
+-- ---- a key is not empty
+
+-- an item that is read makes some length more than 0
+item_stands : (lengths item next : List ℕ) → length lengths ≡ 9 → with_item lengths item ≡ Ok next → (length next ≡ 9) × (next ≢ no_lengths)
+item_stands lengths item next whole h =
+    let read = item_is_read lengths item next h in
+    let below : field_number read.field < length lengths = omega (arith, number_below read.field, whole) in (
+      ap length (sym read.next_is) ∙ length-set lengths (field_number read.field) read.prefix ∙ whole,
+      λ none.
+          prefix_some read.field (back is_slash item) read.prefix read.prefix_is
+          (sym (get_or-set_same lengths (field_number read.field) read.prefix 0 below)
+          ∙ ap (λ ns. get_or ns (field_number read.field) 0) (read.next_is ∙ none) ∙ none_stands read.field),
+    )
+
+items_stand : (place : ℕ) (lengths item : List ℕ) (items : List (List ℕ)) (whole : List ℕ) → length lengths ≡ 9
+    → with_items with_item place lengths (item ∷ items) ≡ Ok whole → whole ≢ no_lengths
+items_stand place lengths item [] whole long h =
+    let f : List ℕ → Result (List ℕ) FieldFault = λ next. Ok next in
+    let read = place_bind place (with_item lengths item) f whole h in
+    let same : read.0 ≡ whole = cc read.2 in
+    subst (λ ns. ns ≢ no_lengths) same (item_stands lengths item read.0 long read.1).1
+items_stand place lengths item (next ∷ items) whole long h =
+    let f : List ℕ → Result (List ℕ) FieldFault = λ found. with_items with_item (place + (length item + 1)) found (next ∷ items) in
+    let read = place_bind place (with_item lengths item) f whole h in
+    items_stand (place + (length item + 1)) read.0 next items whole (item_stands lengths item read.0 long read.1).0 read.2
+
+pub key_stands : (text : List ℕ) (read : Result (List ℕ) FieldFault) → read ≡ key_in text → IfOk read (λ mask. mask ≢ no_lengths)
+unfolding key_in
+key_stands text (Err fault) e = tt
+key_stands text (Ok whole) e =
+    let h : with_items with_item 0 no_lengths (parts 44 text) ≡ Ok whole = sym e in
+    items_stand 0 no_lengths (front (λ b. b == 44) text) (parts_behind 44 (back (λ b. b == 44) text)) whole refl (rw (parts_first 44 text) at h)
+
+-- ---- what is printed of a mask in which some field stands is read as that mask
+
+some_items : (items : List (List ℕ)) (lengths : List ℕ) → with_items with_item 0 no_lengths items ≡ Ok lengths → lengths ≢ no_lengths → 0 < length items
+some_items [] lengths h stands = let same : no_lengths ≡ lengths = cc h in absurd (stands (sym same))
+some_items (item ∷ items) lengths h stands = omega arith
+
+pub key_again : (lengths : List ℕ) → AreLengths lengths → lengths ≢ no_lengths → key_in (key_text lengths) ≡ Ok lengths
+unfolding key_in items_text
+key_again lengths known stands =
+    let items : List (List ℕ) = item_texts None lengths fields in
+    let reads : with_items with_item 0 no_lengths items ≡ Ok lengths = reads_all lengths known in
+    let back : parts 44 (join_with_byte 44 items) ≡ items =
+    parts_joined items (items_plain None lengths (key_plain lengths known) fields) (some_items items lengths reads stands) in
+    rw back reads

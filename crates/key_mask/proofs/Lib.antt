@@ -1,6 +1,12 @@
 pub mod BytesLemmas
-pub mod KeyLemmas
+pub mod EightLemmas
+pub mod Ipv6PrintLemmas
+pub mod Ipv6ReadLemmas
+pub mod ItemLemmas
 pub mod MaskLemmas
-pub mod Values
+pub mod NumberLemmas
 pub mod PartLemmas
+pub mod PrefixLemmas
+pub mod VectorLemmas
+pub mod KeyLemmas
 pub mod PrintLemmas

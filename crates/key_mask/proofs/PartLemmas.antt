@@ -8,7 +8,7 @@ use Rattle.std.proofs.lemmas.List.{length-set, length-take-le, get_or-set_same, 
 use Rattle.std.proofs.lemmas.List.Elements.{All-head, All-tail, All-push, All-weaker}
 use Rattle.std.proofs.lemmas.List.Quantifiers.{all_pairs_push}
 use Rattle.key_mask.specs.declared.fields.Field.{Field}
-use Rattle.key_mask.specs.declared.fields.Field.TheVariants.{SrcIp, DstIp, SrcPort, DstPort, Proto, Tos, EtherType}
+use Rattle.key_mask.specs.declared.fields.Field.TheVariants.{SrcIp, DstIp, SrcPort, DstPort, Proto, Tos, EtherType, SrcIp6, DstIp6}
 use Rattle.key_mask.specs.declared.fields.TheConstants.{FIELD_COUNT}
 use Rattle.key_mask.specs.Fields.{fields, field_number, width_of, is_address, is_length}
 use Rattle.key_mask.specs.Masks.{AreLengths, AreParts, length_in, lengths_of}
@@ -16,7 +16,7 @@ use Rattle.key_mask.specs.Masks.{AreLengths, AreParts, length_in, lengths_of}
 -- ---- fields
 
 -- a field is that of its number
-same_field : (one other : Field) → field_number one ≡ field_number other → one ≡ other
+pub same_field : (one other : Field) → field_number one ≡ field_number other → one ≡ other
 same_field one other e = sym (numbered one) ∙ ap (λ n. get_or fields n SrcIp) e ∙ numbered other where
   numbered : (field : Field) → get_or fields (field_number field) SrcIp ≡ field
   numbered SrcIp = refl
@@ -26,6 +26,8 @@ same_field one other e = sym (numbered one) ∙ ap (λ n. get_or fields n SrcIp)
   numbered Proto = refl
   numbered Tos = refl
   numbered EtherType = refl
+  numbered SrcIp6 = refl
+  numbered DstIp6 = refl
 
 pub number_below : (field : Field) → field_number field < FIELD_COUNT
 number_below SrcIp = omega arith
@@ -35,6 +37,8 @@ number_below DstPort = omega arith
 number_below Proto = omega arith
 number_below Tos = omega arith
 number_below EtherType = omega arith
+number_below SrcIp6 = omega arith
+number_below DstIp6 = omega arith
 
 width_positive : (field : Field) → 0 < width_of field
 width_positive SrcIp = omega arith
@@ -44,6 +48,8 @@ width_positive DstPort = omega arith
 width_positive Proto = omega arith
 width_positive Tos = omega arith
 width_positive EtherType = omega arith
+width_positive SrcIp6 = omega arith
+width_positive DstIp6 = omega arith
 
 -- a field that stands in a mask leaves some bit
 pub length_positive : (field : Field) (length : ℕ) → IsTrue (is_length field length) → 0 < length
@@ -184,6 +190,8 @@ slice_index-lengths_of parts DstPort = refl
 slice_index-lengths_of parts Proto = refl
 slice_index-lengths_of parts Tos = refl
 slice_index-lengths_of parts EtherType = refl
+slice_index-lengths_of parts SrcIp6 = refl
+slice_index-lengths_of parts DstIp6 = refl
 
 length_in_allowed : (parts : List (Field × ℕ)) (field : Field) → AreParts parts → length_in parts field ≢ 0
     → IsTrue (is_length field (length_in parts field))

@@ -1,5 +1,5 @@
 -- Lists of bytes, taken bit by bit.
-use Rattle.std.specs.Prelude.{ℕ, List, [], ◌∷◌, bit_and, bit_or, bit_xor}
+use Rattle.std.specs.Prelude.{ℕ, List, [], ◌∷◌, bit_and, bit_xor}
 
 -- the operation on the two bytes of each place that both lists have
 abbrev pub bytewise : (ℕ → ℕ → ℕ) → List ℕ → List ℕ → List ℕ
@@ -9,9 +9,6 @@ bytewise f (x ∷ xs) (y ∷ ys) = f x y ∷ bytewise f xs ys
 
 abbrev pub and_bytes : List ℕ → List ℕ → List ℕ
 and_bytes = bytewise bit_and
-
-abbrev pub or_bytes : List ℕ → List ℕ → List ℕ
-or_bytes = bytewise bit_or
 
 abbrev pub xor_bytes : List ℕ → List ℕ → List ℕ
 xor_bytes = bytewise bit_xor

@@ -1,5 +1,9 @@
 pub mod Bytes
 pub mod Fields
+pub mod Ipv6
+pub mod Items
 pub mod Keys
 pub mod Masks
 pub mod Numbers
+pub mod Spellings
+pub mod Vectors

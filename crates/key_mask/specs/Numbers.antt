@@ -1,8 +1,7 @@
--- The values of a field, as they are written in texts.
+-- Numbers in texts.
 use Rattle.std.specs.Prelude.{ℕ, ◌+◌, ◌-◌, ◌*◌, ◌==◌, ◌||◌, ◌&&◌, Bool, nat_lt, nat_le, if◌then◌else◌, List, [], ◌∷◌, length, slice_index, Option, None, Some}
+use Rattle.std.specs.Char.{digit_value}
 use Rattle.texts.specs.Cuts.{front, back}
-use Rattle.key_mask.specs.declared.fields.Field.{Field}
-use Rattle.key_mask.specs.declared.fields.Field.TheVariants.{SrcIp, DstIp, SrcPort, DstPort, Proto, Tos, EtherType}
 
 -- the second step, if the first gave a value
 infixl 10 ◌>>=◌
@@ -28,7 +27,7 @@ number_in most limit text = if length text == 0 || nat_lt most (length text) the
 abbrev pub is_dot : ℕ → Bool
 is_dot byte = byte == 46
 
--- an address: four numbers up to 255 with dots between, the first the most significant
+-- an IPv4 address: four numbers up to 255 with dots between, the first the most significant
 unfoldable pub address_in : List ℕ → Option ℕ
 address_in text = do
   a ← number_in 3 255 (front is_dot text)
@@ -42,11 +41,7 @@ address_in text = do
 
 -- a hexadecimal digit of either case
 abbrev pub hex_digit_in : ℕ → Option ℕ
-hex_digit_in byte =
-    if is_digit byte then Some (byte - 48)
-    else (if nat_le 97 byte && nat_le byte 102 then Some (byte - 87)
-    else (if nat_le 65 byte && nat_le byte 70 then Some (byte - 55)
-    else None))
+hex_digit_in byte = if nat_lt (digit_value byte) 16 then Some (digit_value byte) else None
 
 -- `0x`, and the four bytes behind it
 abbrev pub has_hex_form : List ℕ → Bool
@@ -61,13 +56,3 @@ hex_in text = do
   c ← hex_digit_in (slice_index whole 4)
   d ← hex_digit_in (slice_index whole 5)
   Some (((a * 16 + b) * 16 + c) * 16 + d)
-
--- the value of a field that a text writes
-abbrev pub value_in : Field → List ℕ → Option ℕ
-value_in SrcIp text = address_in text
-value_in DstIp text = address_in text
-value_in SrcPort text = number_in 5 65535 text
-value_in DstPort text = number_in 5 65535 text
-value_in Proto text = number_in 3 255 text
-value_in Tos text = number_in 3 255 text
-value_in EtherType text = hex_in text

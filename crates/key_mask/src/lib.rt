@@ -1,16 +1,24 @@
 //! The vector of header fields that keys and filters look at, and masks by prefix over it.
 #![tactic(auto)]
 
+mod eights;
 mod fields;
+mod ipv6;
+mod items;
 mod keys;
 mod masks;
 mod numbers;
 mod printing;
+mod spelling;
+mod values;
 mod vectors;
 
-pub use fields::{FIELD_COUNT, FIELDS, Field, KEY_BYTES};
-pub use keys::{FieldFault, FieldKind, field_of, parse_key, prefix_of, with_length};
-pub use masks::{Mask, mask_bytes, mask_lengths, mask_of, mask_with, xors_to};
-pub use numbers::{number_of, value_of};
-pub use printing::{Line, put_key};
+pub use eights::{eight_at, eight_left};
+pub use fields::{FIELD_COUNT, FIELDS, Field, KEY_BYTES, ValueKind};
+pub use items::{FieldFault, FieldKind, FromItems, field_of, prefix_of, read_items};
+pub use keys::{parse_key, put_key};
+pub use masks::{Mask, mask_bytes, mask_of, xors_to};
+pub use numbers::number_of;
+pub use printing::{Line, put_items};
+pub use values::value_of;
 pub use vectors::{KeyVec, xor_of};

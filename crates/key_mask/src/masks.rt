@@ -1,8 +1,8 @@
 //! Masks: for each field a prefix of its bits, or nothing of it.
-ghost use Rattle.std.specs.Prelude.{◌≡◌, ◌↔◌, ◌≤◌, ◌-◌, ◌/◌, ◌^◌, IsTrue, IsSome, IfSome, map, length};
-ghost use Rattle.std.specs.List.{range_with_len};
+ghost use Rattle.std.specs.Prelude.{◌≡◌, ◌≢◌, ◌↔◌, ◌≤◌, ◌-◌, ◌/◌, ◌^◌, IsTrue, IsSome, IfSome, length, slice_index, slice_set};
 ghost use Rattle.key_mask.specs.Bytes.{xor_bytes};
-ghost use Rattle.key_mask.specs.Masks.{mask_bytes_of, prefix_byte, AreLengths, AreParts, lengths_of};
+ghost use Rattle.key_mask.specs.Fields.{field_number, is_length};
+ghost use Rattle.key_mask.specs.Masks.{mask_bytes_of, prefix_bytes, no_lengths, AreLengths, AreParts, lengths_of};
 
 use crate::fields::{FIELD_COUNT, FIELDS, Field, KEY_BYTES};
 use crate::vectors::xor_of;
@@ -33,33 +33,72 @@ impl Model for Mask {
     ghost inverse_ok = { λ a h. ap (λ bytes. record { lengths = a.lengths; bytes = bytes }) (sym h.0) };
 }
 
+impl Mask {
+    /// The mask in which no field stands.
+    #[tactic(auto, using(crate::proofs::MaskLemmas::none_allowed))]
+    pub fn empty() -> Mask
+        ensures { result ≡ no_lengths }
+    {
+        mask_with([0; FIELD_COUNT])
+    }
+
+    /// Whether no field stands in it.
+    pub fn is_empty(&self) -> bool
+        ensures exact { IsTrue result ↔ (self.now ≡ no_lengths) }
+        ensures known { AreLengths self.now }
+    {
+        self.lengths == [0; FIELD_COUNT]
+    }
+
+    /// The prefix lengths of the fields, by their numbers: 0 where a field does not stand in it.
+    pub(crate) fn lengths(&self) -> &[u8; FIELD_COUNT]
+        ensures same { result.now ≡ self.now }
+        ensures known { AreLengths self.now }
+    {
+        &self.lengths
+    }
+
+    /// The prefix length of the field, 0 where it does not stand in the mask.
+    pub fn length(&self, field: Field) -> u8
+        ensures value { result ≡ slice_index self.now (field_number field) }
+        ensures allowed { result ≢ 0 → IsTrue (is_length field result) }
+    {
+        self.lengths[field.number()]
+    }
+
+    /// The mask with this prefix length for the field, and all else as it is.
+    #[tactic(auto, using(crate::proofs::MaskLemmas::set_allowed))]
+    pub fn with(&self, field: Field, length: u8) -> Mask
+        requires { IsTrue (is_length field length) }
+        ensures { result ≡ slice_set self.now (field_number field) length }
+    {
+        let mut lengths = self.lengths;
+        lengths[field.number()] = length;
+        mask_with(lengths)
+    }
+
+    /// The bytes of the vector that the mask leaves, each bit 1.
+    pub fn bytes(&self) -> &[u8; KEY_BYTES]
+        ensures { result.now ≡ mask_bytes_of self.now }
+    {
+        &self.bytes
+    }
+}
+
 /// The mask in which these fields stand with these prefix lengths, and no other field.
+#[tactic(auto, using(crate::proofs::PartLemmas::repeated, crate::proofs::PartLemmas::disallowed))]
 pub fn mask_of(parts: &[(Field, u32)]) -> Option<Mask>
     ensures accepted { IsSome result ↔ AreParts parts.now }
     ensures value { IfSome result (λ mask. mask ≡ lengths_of parts.now) }
 {
-    let lengths = lengths_from(parts)?;
-    Some(mask_with(&lengths))
-}
-
-/// The mask of these prefix lengths of the fields, by their numbers.
-pub fn mask_with(lengths: &[u8; FIELD_COUNT]) -> Mask
-    requires { AreLengths lengths.now }
-    ensures { result ≡ lengths.now }
-{
-    let bytes = bytes_from(lengths);
-    Mask {
-        lengths: *lengths,
-        bytes,
+    let mut mask = Mask::empty();
+    'parts: for &(field, length) in parts {
+        if mask.length(field) != 0 || !field.allows(length) {
+            return None;
+        }
+        mask = mask.with(field, length as u8);
     }
-}
-
-/// The prefix lengths of the fields, by their numbers: 0 where a field does not stand in the mask.
-pub fn mask_lengths(mask: &Mask) -> [u8; FIELD_COUNT]
-    ensures same { result ≡ mask.now }
-    ensures allowed { AreLengths result }
-{
-    mask.lengths
+    Some(mask)
 }
 
 /// The bytes of the vector that the mask leaves, each bit 1.
@@ -74,25 +113,18 @@ pub fn xors_to(one: &Mask, two: &Mask, mask: &Mask) -> bool
     ensures { let both = xor_bytes (mask_bytes_of one.now) (mask_bytes_of two.now) in
         IsTrue result ↔ (both ≡ mask_bytes_of mask.now) }
 {
-    xor_of(&mask_bytes(one), &mask_bytes(two)) == mask_bytes(mask)
+    xor_of(one.bytes(), two.bytes()) == *mask.bytes()
 }
 
-/// The prefix lengths of the fields, by their numbers.
-#[tactic(auto, using(crate::proofs::PartLemmas::repeated, crate::proofs::PartLemmas::disallowed))]
-fn lengths_from(parts: &[(Field, u32)]) -> Option<[u8; FIELD_COUNT]>
-    ensures accepted { IsSome result ↔ AreParts parts.now }
-    ensures value { IfSome result (λ lengths. lengths ≡ lengths_of parts.now) }
+/// The mask of these prefix lengths of the fields, by their numbers.
+fn mask_with(lengths: [u8; FIELD_COUNT]) -> Mask
+    requires { AreLengths lengths }
+    ensures { result ≡ lengths }
 {
-    let mut lengths = [0; FIELD_COUNT];
-    'parts: for &(field, length) in parts {
-        let number = field.number();
-        let before = lengths[number];
-        if before != 0 || !field.allows(length) {
-            return None;
-        }
-        lengths[number] = length as u8;
+    Mask {
+        lengths,
+        bytes: bytes_from(&lengths),
     }
-    Some(lengths)
 }
 
 /// The bytes of the fields, one after another.
@@ -102,16 +134,16 @@ fn bytes_from(lengths: &[u8; FIELD_COUNT]) -> [u8; KEY_BYTES]
     let mut bytes = [0; KEY_BYTES];
     let mut start = 0;
     'fields: for field in FIELDS {
-        let end = start + field.width() as usize / 8;
-        put_prefix(&mut bytes[start..end], lengths[field.number()]);
+        let end = start + field.size();
+        fill_prefix(&mut bytes[start..end], lengths[field.number()]);
         start = end;
     }
     bytes
 }
 
 /// Writes a prefix of this many ones.
-fn put_prefix(bytes: &mut [u8], ones: u8)
-    ensures { bytes.new ≡ map (prefix_byte ones) (range_with_len 0 (length bytes.old)) }
+fn fill_prefix(bytes: &mut [u8], ones: u8)
+    ensures { bytes.new ≡ prefix_bytes ones (length bytes.old) }
 {
     let mut left = ones;
     'bytes: for byte in bytes.iter_mut() {

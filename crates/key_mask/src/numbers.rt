@@ -1,26 +1,12 @@
-//! The values of a field, as they are written in texts.
-ghost use Rattle.std.specs.Prelude.{◌≡◌, ◌≤◌, ◌<◌, length, IfSome};
-ghost use Rattle.key_mask.specs.Numbers.{value_in, address_in, number_in, hex_in, hex_digit_in, digits_after};
+//! Numbers in texts.
+ghost use Rattle.std.specs.Prelude.{◌≡◌, ◌≤◌, ◌<◌, ◌^◌, length, IfSome};
+ghost use Rattle.key_mask.specs.Numbers.{address_in, number_in, hex_in, hex_digit_in, digits_after};
 
-use crate::fields::Field;
 use texts::cut;
-
-/// The value of the field that the text writes: `A.B.C.D` for an address, the most significant
-/// number first, `0x` and four hexadecimal digits for an EtherType, decimal digits for others.
-pub fn value_of(field: Field, text: &[u8]) -> Option<u32>
-    ensures { result ≡ value_in field text.now }
-{
-    match field {
-        Field::SrcIp | Field::DstIp => address_of(text),
-        Field::SrcPort | Field::DstPort => number_of(text, 5, 65535),
-        Field::Proto | Field::Tos => number_of(text, 3, 255),
-        Field::EtherType => hex_of(text),
-    }
-}
 
 /// Four numbers up to 255 with dots between, each in one to three digits.
 #[tactic(auto, unfolding(crate::specs::Numbers::address_in))]
-fn address_of(text: &[u8]) -> Option<u32>
+pub(crate) fn address_of(text: &[u8]) -> Option<u32>
     ensures { result ≡ address_in text.now }
 {
     let (first, behind) = cut(text, b'.');
@@ -68,7 +54,7 @@ fn digits_of(text: &[u8]) -> Option<u64>
 
 /// `0x` and four hexadecimal digits of either case.
 #[tactic(auto, using(std::proofs::lemmas::Bool::Decides::nat_tests), unfolding(crate::specs::Numbers::hex_in))]
-fn hex_of(text: &[u8]) -> Option<u32>
+pub(crate) fn hex_of(text: &[u8]) -> Option<u32>
     ensures { result ≡ hex_in text.now }
 {
     if text.len() != 6 || text[0] != b'0' || text[1] != b'x' {
@@ -81,47 +67,18 @@ fn hex_of(text: &[u8]) -> Option<u32>
     Some(((a * 16 + b) * 16 + c) * 16 + d)
 }
 
-/// The value of a hexadecimal digit, below 16.
+/// The value of a hexadecimal digit of either case.
 #[tactic(auto, using(std::proofs::lemmas::Bool::Decides::nat_tests))]
-fn hex_digit_of(byte: u8) -> Option<u32>
+pub(crate) fn hex_digit_of(byte: u8) -> Option<u32>
     ensures value { result ≡ hex_digit_in byte }
     ensures below { IfSome result (λ digit. digit < 16) }
 {
-    match byte {
-        b'0'..=b'9' => Some((byte - b'0') as u32),
-        b'a'..=b'f' => Some((byte - b'a') as u32 + 10),
-        b'A'..=b'F' => Some((byte - b'A') as u32 + 10),
-        _ => None,
-    }
+    (byte as char).to_digit(16)
 }
 
 #[cfg(test)]
 mod tests {
-    use super::{number_of, value_of};
-    use crate::fields::Field;
-    use std::test::Fail;
-
-    #[test]
-    fn values_of_fields(rt: HostRuntime) -> Result<(), Fail> {
-        let rows: [(Field, &[u8], Option<u32>); 12] = [
-            (Field::SrcIp, b"10.0.0.20", Some(0x0a00_0014)),
-            (Field::SrcIp, b"10.0.0.256", None),
-            (Field::DstIp, b"255.255.255.255", Some(0xffff_ffff)),
-            (Field::DstIp, b"1.2.3", None),
-            (Field::SrcPort, b"00080", Some(80)),
-            (Field::SrcPort, b"", None),
-            (Field::DstPort, b"65536", None),
-            (Field::Proto, b"255", Some(255)),
-            (Field::Tos, b"256", None),
-            (Field::EtherType, b"0x86dD", Some(0x86dd)),
-            (Field::EtherType, b"0X0800", None),
-            (Field::EtherType, b"2048", None),
-        ];
-        for (field, text, value) in rows {
-            assert_eq!(rt; value_of(field, text), value);
-        }
-        Ok(())
-    }
+    use super::number_of;
 
     #[test]
     fn numbers_up_to_the_widest(rt: HostRuntime) {

@@ -1,46 +1,42 @@
-//! Keys as they are printed: one canonical text for each mask.
-ghost use Rattle.std.specs.Prelude.{◌≡◌, ◌≢◌, ◌+◌, ◌≤◌, length, Ok};
+//! Items as they are printed: one canonical text for each mask, and for each value under it.
+ghost use Rattle.std.specs.Prelude.{◌≡◌, ◌≢◌, ◌+◌, ◌≤◌, ◌++◌, IsTrue, length, is_some};
+ghost use Rattle.std.specs.Option.{option_copied};
+ghost use Rattle.key_mask.specs.Fields.{kind_of, is_length, prefix_digits};
 ghost use Rattle.key_mask.specs.Masks.{AreLengths};
-ghost use Rattle.key_mask.specs.Keys.{key_in, key_text, no_lengths, with_field};
+ghost use Rattle.key_mask.specs.Items.{items_text, with_field, prefix_text, longest_item, longest_items, longest_prefix};
 
-use crate::fields::{FIELD_COUNT, FIELDS, Field};
-use crate::masks::{Mask, mask_lengths};
+use crate::fields::{FIELDS, Field};
+use crate::masks::Mask;
+use crate::spelling::put_value;
+use crate::vectors::KeyVec;
 use arrayvec::ArrayString;
 use itoa::Buffer;
 
 /// A line of text, of at most 512 bytes.
 pub type Line = ArrayString<512>;
 
-/// The canonical key of a mask in which some field stands: the fields in their order with commas
-/// between, and no prefix where an address is whole.
-pub fn put_key(mask: &Mask) -> Line
-    requires { mask.now ≢ no_lengths }
-    ensures text { result.bytes ≡ key_text mask.now }
-    ensures again { key_in result.bytes ≡ Ok mask.now }
-    ensures short { length result.bytes ≤ 98 }
+/// The items of the fields that stand in the mask, in their order with commas between, each with
+/// the value that it has in the vector, where there is one.
+pub fn put_items(mask: &Mask, values: Option<&KeyVec>) -> Line
+    ensures text { result.bytes ≡ items_text (option_copied values.entry) mask.now }
+    ensures short { length result.bytes ≤ longest_items (is_some values.entry) }
+    ensures known { AreLengths mask.now }
 {
-    let lengths = mask_lengths(mask);
-    key_line(&lengths)
-}
-
-/// The items of the fields with these prefix lengths.
-fn key_line(lengths: &[u8; FIELD_COUNT]) -> Line
-    ensures text { result.bytes ≡ key_text lengths.now }
-    ensures short { length result.bytes ≤ 98 }
-{
+    let lengths = mask.lengths();
     let mut line = Line::new();
     'fields: for field in FIELDS {
-        put_field(&mut line, field, lengths[field.number()]);
+        put_field(&mut line, values, field, lengths[field.number()]);
     }
     line
 }
 
 /// Appends the item of the field, where it stands in the mask.
-#[tactic(auto, unfolding(crate::specs::Keys::with_field))]
-fn put_field(line: &mut Line, field: Field, prefix: u8)
-    requires { length line.old.bytes ≤ 400 }
-    ensures text { line.new.bytes ≡ with_field line.old.bytes field prefix }
-    ensures short { length line.new.bytes ≤ length line.old.bytes + 14 }
+#[tactic(auto, unfolding(crate::specs::Items::with_field))]
+fn put_field(line: &mut Line, values: Option<&KeyVec>, field: Field, prefix: u8)
+    requires room { length line.old.bytes + longest_item (is_some values) field + 1 ≤ 512 }
+    requires fits { prefix ≢ 0 → IsTrue (is_length field prefix) }
+    ensures text { line.new.bytes ≡ with_field (option_copied values.entry) line.old.bytes field prefix }
+    ensures short { length line.new.bytes ≤ length line.old.bytes + longest_item (is_some values.entry) field + 1 }
 {
     if prefix == 0 {
         return;
@@ -49,41 +45,22 @@ fn put_field(line: &mut Line, field: Field, prefix: u8)
         line.push_str(",");
     }
     line.push_str(field.name());
-    if field.is_address() && prefix != 32 {
-        line.push_str("/");
-        line.push_str(Buffer::new().format(prefix));
+    if let Some(vector) = values {
+        line.push_str(":");
+        put_value(line, field, vector.value(field));
     }
+    put_prefix(line, field, prefix);
 }
 
-#[cfg(test)]
-mod tests {
-    use super::put_key;
-    use crate::keys::parse_key;
-    use std::test::Fail;
-
-    #[test]
-    fn keys_print_in_field_order(rt: HostRuntime) -> Result<(), Fail> {
-        let rows: [(&[u8], &str); 6] = [
-            (b"src_ip", "src_ip"),
-            (b"dst_ip/32", "dst_ip"),
-            (b"tos,src_ip/08", "src_ip/8,tos"),
-            (b"dst_ip/1,src_ip/31", "src_ip/31,dst_ip/1"),
-            (
-                b"ethertype,proto,dst_port,src_port",
-                "src_port,dst_port,proto,ethertype",
-            ),
-            (
-                b"ethertype,tos,proto,dst_port,src_port,dst_ip/10,src_ip/24",
-                "src_ip/24,dst_ip/10,src_port,dst_port,proto,tos,ethertype",
-            ),
-        ];
-        for (text, canonical) in rows {
-            let Ok(mask) = parse_key(text) else {
-                return Err("a key".into());
-            };
-            assert_eq!(rt; put_key(&mask).as_str(), canonical);
-            assert_eq!(rt; parse_key(canonical.as_bytes()), Ok(mask));
-        }
-        Ok(())
+/// Appends a slash and the prefix length, where it is not the whole field.
+fn put_prefix(line: &mut Line, field: Field, prefix: u8)
+    requires room { length line.old.bytes + longest_prefix (prefix_digits (kind_of field)) ≤ 512 }
+    requires fits { IsTrue (is_length field prefix) }
+    ensures text { line.new.bytes ≡ line.old.bytes ++ prefix_text field prefix }
+    ensures short { length line.new.bytes ≤ length line.old.bytes + longest_prefix (prefix_digits (kind_of field)) }
+{
+    if prefix != field.width() {
+        line.push_str("/");
+        line.push_str(Buffer::new().format(prefix));
     }
 }

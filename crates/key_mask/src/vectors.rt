@@ -1,10 +1,12 @@
 //! Key vectors, and lists of bytes taken bit by bit.
-ghost use Rattle.std.specs.Prelude.{◌≡◌};
+ghost use Rattle.std.specs.Prelude.{◌≡◌, ◌<◌, ◌≤◌, ◌^◌, length};
 ghost use Rattle.key_mask.specs.Bytes.{and_bytes, xor_bytes};
+ghost use Rattle.key_mask.specs.Fields.{width_of};
 ghost use Rattle.key_mask.specs.Masks.{mask_bytes_of};
+ghost use Rattle.key_mask.specs.Vectors.{big_endian, value_at, with_value};
 
-use crate::fields::KEY_BYTES;
-use crate::masks::{Mask, mask_bytes};
+use crate::fields::{Field, KEY_BYTES};
+use crate::masks::Mask;
 use std::marker::Model;
 
 /// The header fields of a packet, or of a key value, in the order of [`crate::Field`]'s
@@ -27,9 +29,41 @@ impl KeyVec {
     pub fn masked(&self, mask: &Mask) -> KeyVec
         ensures { result ≡ and_bytes self.now (mask_bytes_of mask.now) }
     {
-        let mask = mask_bytes(mask);
-        KeyVec(and_of(&self.0, &mask))
+        KeyVec(and_of(&self.0, mask.bytes()))
     }
+
+    /// The value that the field has in it.
+    pub fn value(&self, field: Field) -> u128
+        ensures value { result ≡ value_at self.now field }
+        ensures small { result < 2 ^ width_of field }
+    {
+        let start = field.start();
+        number_in(&self.0[start..start + field.size()])
+    }
+
+    /// The vector with this value of the field, and all else as it is.
+    pub fn with_value(&self, field: Field, value: u128) -> KeyVec
+        ensures { result ≡ with_value self.now field value }
+    {
+        let start = field.start();
+        let size = field.size();
+        let mut bytes = self.0;
+        bytes[start..start + size].copy_from_slice(&value.to_be_bytes()[16 - size..]);
+        KeyVec(bytes)
+    }
+}
+
+/// The bytes as one number, the first the most significant.
+fn number_in(bytes: &[u8]) -> u128
+    requires { length bytes.now ≤ 16 }
+    ensures value { result ≡ big_endian bytes.now }
+    ensures small { result < 256 ^ length bytes.now }
+{
+    let mut number = 0;
+    'bytes: for byte in bytes {
+        number = number * 256 + u128::from(*byte);
+    }
+    number
 }
 
 /// The bits that are 1 in both.
@@ -69,7 +103,10 @@ mod tests {
         let kind = mask_of(&[(Field::Proto, 8)]).ok_or("a protocol")?;
         let both = mask_of(&[(Field::Proto, 8), (Field::SrcIp, 9)]).ok_or("both")?;
         let all = KeyVec([255; KEY_BYTES]);
-        let left = [255, 128, 0, 0, 0, 0, 0, 0, 0, 0, 0, 0, 255, 0, 0, 0];
+        let mut left = [0; KEY_BYTES];
+        left[0] = 255;
+        left[1] = 128;
+        left[12] = 255;
         assert_eq!(rt; all.masked(&both), KeyVec(left));
         assert!(rt; xors_to(&net, &kind, &both));
         assert!(rt; mask_of(&[(Field::SrcIp, 9), (Field::SrcIp, 8)]).is_none());

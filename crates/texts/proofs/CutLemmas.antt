@@ -1,10 +1,10 @@
 -- Where `position` finds the separator, the text is cut.
-use Rattle.std.proofs.Common.{◌≡◌, ℕ, ◌+◌, ◌≤◌, ◌==◌, suc, Bool, true, false, not, cond, ltb, List, [], ◌∷◌, length, take, drop, None, Some, position, ◌++◌, ◌&&◌, refl, ap, ◌∙◌, arith}
+use Rattle.std.proofs.Common.{◌≡◌, ℕ, ◌+◌, ◌≤◌, ◌==◌, suc, Bool, true, false, not, cond, ltb, List, [], ◌∷◌, length, take, drop, Option, None, Some, position, ◌++◌, ◌&&◌, refl, ap, ◌∙◌, arith}
 use Rattle.std.specs.List.{position_or_len, slice_split, onto_first, list_all}
 use Rattle.std.proofs.lemmas.Bool.{false≢true}
 use Rattle.std.proofs.lemmas.Bool.Decides.{nat_tests}
 use Rattle.std.proofs.lemmas.List.{take_all}
-use Rattle.texts.specs.Cuts.{front, back, parts, parts_behind}
+use Rattle.texts.specs.Cuts.{front, back, parts}
 
 front_is : (p : ℕ → Bool) (xs : List ℕ) → front p xs ≡ take (position_or_len p xs) xs
 front_is p [] = refl
@@ -62,6 +62,11 @@ back_none p xs h =
     ] refl h
 
 pub ruleset cuts = (front_found, front_none, back_found, back_none)
+
+-- the parts of what is left, if anything is left
+abbrev pub parts_behind : ℕ → Option (List ℕ) → List (List ℕ)
+parts_behind separator None = []
+parts_behind separator (Some text) = parts separator text
 
 -- the parts of a text are what stands before the first separator, and the parts behind it
 pub parts_first : (c : ℕ) (xs : List ℕ) → parts c xs ≡ front (λ b. b == c) xs ∷ parts_behind c (back (λ b. b == c) xs)

@@ -20,7 +20,3 @@ left_behind (Some bytes) = length bytes + 1
 -- the parts between the separators
 abbrev pub parts : ℕ → List ℕ → List (List ℕ)
 parts separator text = slice_split (λ b. b == separator) text
-
-abbrev pub parts_behind : ℕ → Option (List ℕ) → List (List ℕ)
-parts_behind separator None = []
-parts_behind separator (Some text) = parts separator text

@@ -5,8 +5,8 @@ use Rattle.key_mask.proofs.masks.bytes_from.Goals as goal
 
 pub fields-preserved : goal.fields-preserved
 fields-preserved c =
-    written_more fields c.args.lengths.now c.fields.bytes c.put_prefix.new.bytes c.fields.start c.fields.field-index c.width.result
-    c.fields.invariant c.fields-test.true c.width.ensures (rw (← c.number.ensures.place) c.put_prefix.ensures)
+    written_more fields c.args.lengths.now c.fields.bytes c.fill_prefix.new.bytes c.fields.start c.fields.field-index c.size.result
+    c.fields.invariant c.fields-test.true c.size.ensures.size (rw (← c.number.ensures.place) c.fill_prefix.ensures)
 
 pub returns : goal.returns
 unfolding mask_bytes_of

@@ -1,0 +1,50 @@
+-- Items with commas between: how they are read one by one.
+use Rattle.std.proofs.Common.{◌≡◌, ◌≢◌, ℕ, zero, suc, ◌+◌, ◌<◌, ◌≤◌, ◌==◌, Bool, true, false, cond, List, [], ◌∷◌, ◌++◌, length, slice_index, Option, None, Some, Result, Ok, Err, refl, ap, sym, ◌∙◌, arith, ⊎_elim, eq-eqb}
+use Rattle.std.proofs.lemmas.Bool.{cases_eq, ne_eqb}
+use Rattle.texts.specs.Cuts.{front, back, parts}
+use Rattle.texts.proofs.CutLemmas.{parts_first, parts_behind}
+use Rattle.key_mask.specs.declared.fields.Field.{Field}
+use Rattle.key_mask.specs.declared.items.FieldKind.{FieldKind}
+use Rattle.key_mask.specs.Fields.{field_number}
+use Rattle.key_mask.specs.Items.{with_items, item_text, item_texts}
+
+-- one item more
+pub item_read : {A : Type 0} (add : A → List ℕ → Result A FieldKind) (place : ℕ) (found : A) (text item : List ℕ) (rest : Option (List ℕ)) (next : A)
+    → item ≡ front (λ b. b == 44) text → rest ≡ back (λ b. b == 44) text → add found item ≡ Ok next
+    → with_items add (place + (length item + 1)) next (parts_behind 44 rest) ≡ with_items add place found (parts 44 text)
+item_read add place found text item rest next p q e = rw (parts_first 44 text, ← p, ← q, e) refl
+
+-- the first item at fault
+pub item_fault : {A : Type 0} (add : A → List ℕ → Result A FieldKind) (place : ℕ) (found : A) (text item : List ℕ) (kind : FieldKind)
+    → item ≡ front (λ b. b == 44) text → add found item ≡ Err kind
+    → with_items add place found (parts 44 text) ≡ Err (record { kind = kind; place = place })
+item_fault add place found text item kind p e = rw (parts_first 44 text, ← p, e) refl
+
+-- ---- what was printed is read
+
+-- the item of a field that stands in the mask leads from one state to the next, and where it does not stand the two are one
+pub record IsStep {A : Type 0} (add : A → List ℕ → Result A FieldKind) (values : Option (List ℕ)) (lengths : List ℕ) (now next : A) (field : Field) : Type 0 where
+  pub absent : slice_index lengths (field_number field) ≡ 0 → next ≡ now
+  pub present : slice_index lengths (field_number field) ≢ 0
+      → add now (item_text values field (slice_index lengths (field_number field))) ≡ Ok next
+
+abbrev pub AreSteps : {A : Type 0} → (A → List ℕ → Result A FieldKind) → Option (List ℕ) → List ℕ → (ℕ → A) → ℕ → List Field → Type 0
+AreSteps add values lengths state k [] = Unit {0}
+AreSteps add values lengths state k (field ∷ fields) =
+    IsStep add values lengths (state k) (state (suc k)) field × AreSteps add values lengths state (suc k) fields
+
+pub items_again : {A : Type 0} (add : A → List ℕ → Result A FieldKind) (values : Option (List ℕ)) (lengths : List ℕ) (state : ℕ → A) (k : ℕ) (fields : List Field)
+    → AreSteps add values lengths state k fields → (place : ℕ)
+    → with_items add place (state k) (item_texts values lengths fields) ≡ Ok (state (k + length fields))
+items_again add values lengths state k [] steps place = let e : k + 0 ≡ k = omega arith in rw e refl
+items_again add values lengths state k (field ∷ fields) steps place =
+    let n : ℕ = slice_index lengths (field_number field) in
+    let count : k + length (field ∷ fields) ≡ suc k + length fields = omega arith in
+    ⊎_elim
+    (λ (e : n ≡ 0).
+    let t : (n == 0) ≡ true = eq-eqb n 0 e in
+    rw (t, count, ← steps.0.absent e) (items_again add values lengths state (suc k) fields steps.1 place))
+    (λ (ne : n ≢ 0).
+    let t : (n == 0) ≡ false = ne_eqb n 0 ne in
+    rw (t, steps.0.present ne, count) (items_again add values lengths state (suc k) fields steps.1 (place + (length (item_text values field n) + 1))))
+    (cases_eq n 0)

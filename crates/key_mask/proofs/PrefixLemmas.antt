@@ -1,0 +1,111 @@
+-- Prefixes of fields, printed and read.
+use Rattle.std.proofs.Common.{◌≡◌, ◌≢◌, ℕ, ◌+◌, ◌^◌, ◌<◌, ◌≤◌, ◌==◌, ◌&&◌, Bool, true, false, not, cond, nat_le, List, [], ◌∷◌, ◌++◌, length, Option, None, Some, is_some, option_and_then, IsTrue, refl, ap, sym, ◌∙◌, arith, ⊎_elim, eq-eqb, eqb-true}
+use Rattle.std.specs.List.{list_all}
+use Rattle.std.specs.Fmt.{decimal}
+use Rattle.std.proofs.lemmas.Bool.{cases_eq, false≢true, ne_eqb}
+use Rattle.std.proofs.lemmas.Bool.Decides.{nat_tests}
+use Rattle.std.proofs.lemmas.Fmt.{length-decimal-le}
+use Rattle.key_mask.specs.declared.fields.Field.{Field}
+use Rattle.key_mask.specs.declared.fields.Field.TheVariants.{SrcIp, DstIp, SrcPort, DstPort, Proto, Tos, EtherType, SrcIp6, DstIp6}
+use Rattle.key_mask.specs.Fields.{width_of, kind_of, prefix_digits, is_length}
+use Rattle.key_mask.specs.Numbers.{number_in}
+use Rattle.key_mask.specs.Items.{longest_prefix, not_zero, prefix_in, prefix_text}
+use Rattle.key_mask.proofs.NumberLemmas.{number_again, decimal_pass}
+
+-- the digits that a prefix may have are enough for the whole width
+abbrev AreEnough : Option ℕ → ℕ → Type 0
+AreEnough None width = Unit {0}
+AreEnough (Some digits) width = (0 < digits) × (width < 10 ^ digits)
+
+pub record IsRow (digits : Option ℕ) (width : ℕ) : Type 0 where
+  pub enough : AreEnough digits width
+  pub some : 0 < width
+  pub few : width ≤ 128
+
+pub each_row : (field : Field) → IsRow (prefix_digits (kind_of field)) (width_of field)
+each_row SrcIp = record { enough = (omega arith, omega arith); some = omega arith; few = omega arith }
+each_row DstIp = record { enough = (omega arith, omega arith); some = omega arith; few = omega arith }
+each_row SrcPort = record { enough = tt; some = omega arith; few = omega arith }
+each_row DstPort = record { enough = tt; some = omega arith; few = omega arith }
+each_row Proto = record { enough = tt; some = omega arith; few = omega arith }
+each_row Tos = record { enough = tt; some = omega arith; few = omega arith }
+each_row EtherType = record { enough = tt; some = omega arith; few = omega arith }
+each_row SrcIp6 = record { enough = (omega arith, omega arith); some = omega arith; few = omega arith }
+each_row DstIp6 = record { enough = (omega arith, omega arith); some = omega arith; few = omega arith }
+
+-- a length between 1 and the width
+pub record IsWithin (width n : ℕ) : Type 0 where
+  pub some : 0 < n
+  pub few : n ≤ width
+
+within : (digits : Option ℕ) (width n : ℕ) → 0 < width → cond (is_some digits) (nat_le 1 n && nat_le n width) (n == width) ≡ true → IsWithin width n
+within None width n some e = let same : n ≡ width = eqb-true n width e in record { some = omega arith; few = omega arith }
+within (Some digits) width n some e = record { some = grind (arith, nat_tests); few = grind (arith, nat_tests) }
+
+pub length_within : (field : Field) (n : ℕ) → IsTrue (is_length field n) → IsWithin (width_of field) n
+length_within field n e = within (prefix_digits (kind_of field)) (width_of field) n (each_row field).some e
+
+-- ---- a prefix that is printed
+
+short_digits : (digits : Option ℕ) (width n : ℕ) → IsRow digits width → cond (is_some digits) (nat_le 1 n && nat_le n width) (n == width) ≡ true
+    → n ≢ width → length (decimal n) + 1 ≤ longest_prefix digits
+short_digits None width n row e ne = absurd (ne (eqb-true n width e))
+short_digits (Some digits) width n row e ne =
+    let fits = within (Some digits) width n row.some e in
+    omega (arith, length-decimal-le digits n row.enough.0 (omega (arith, row.enough.1, fits.few)) (omega (arith, fits.few, row.few)))
+
+pub prefix_short : (field : Field) (n : ℕ) → IsTrue (is_length field n) → n ≢ width_of field
+    → length (decimal n) + 1 ≤ longest_prefix (prefix_digits (kind_of field))
+prefix_short field n e ne = short_digits (prefix_digits (kind_of field)) (width_of field) n (each_row field) e ne
+
+-- ---- and is read again
+
+behind_again : (digits : Option ℕ) (width n : ℕ) → IsRow digits width → cond (is_some digits) (nat_le 1 n && nat_le n width) (n == width) ≡ true
+    → n ≢ width → option_and_then (λ d. option_and_then not_zero (number_in d width (decimal n))) digits ≡ Some n
+behind_again None width n row e ne = absurd (ne (eqb-true n width e))
+behind_again (Some digits) width n row e ne =
+    let fits = within (Some digits) width n row.some e in
+    let nz : (n == 0) ≡ false = ne_eqb n 0 (λ z. omega (arith, fits.some)) in
+    rw (number_again digits width n fits.few (omega (arith, fits.few, row.few)) row.enough.0 (omega (arith, row.enough.1, fits.few)), nz) refl
+
+pub prefix_again : (field : Field) (n : ℕ) → IsTrue (is_length field n)
+    → prefix_in field (cond (n == width_of field) None (Some (decimal n))) ≡ Some n
+prefix_again field n e =
+    ⊎_elim
+    (λ (same : n ≡ width_of field).
+    let t : (n == width_of field) ≡ true = eq-eqb n (width_of field) same in
+    rw t (ap (λ k. Some k) (sym same)))
+    (λ (ne : n ≢ width_of field).
+    let t : (n == width_of field) ≡ false = ne_eqb n (width_of field) ne in
+    rw t (behind_again (prefix_digits (kind_of field)) (width_of field) n (each_row field) e ne))
+    (cases_eq n (width_of field))
+
+-- digits, where there are any, pass a test that digits and the slash pass
+pub prefix_pass : (p : ℕ → Bool) → p 47 ≡ true → ((c : ℕ) → 48 ≤ c → c ≤ 57 → p c ≡ true)
+    → (field : Field) (n : ℕ) → n < 2 ^ 64 → list_all p (prefix_text field n) ≡ true
+prefix_pass p slash each field n small =
+    elim (n == width_of field) as (λ t. list_all p (cond t [] (47 ∷ decimal n)) ≡ true) [
+      | true ↦ refl
+      | false ↦ rw slash (decimal_pass p each n small)
+    ]
+
+-- ---- a prefix that is read has some bit
+
+then_some : (o : Option ℕ) (f : ℕ → Option ℕ) (p : ℕ) → option_and_then f o ≡ Some p → (x : ℕ) × (f x ≡ Some p)
+then_some None f p h = absurd (let wrong : ⊥ = cc in wrong)
+then_some (Some x) f p h = (x, h)
+
+not_zero_some : (n p : ℕ) → not_zero n ≡ Some p → p ≢ 0
+not_zero_some n p h z =
+    ⊎_elim
+    (λ (e : n ≡ 0). let t : (n == 0) ≡ true = eq-eqb n 0 e in let wrong : None ≡ Some p = rw t at h in absurd (let bad : ⊥ = cc in bad))
+    (λ (ne : n ≢ 0). let t : (n == 0) ≡ false = ne_eqb n 0 ne in let same : Some n ≡ Some p = rw t at h in let equal : n ≡ p = cc same in ne (equal ∙ z))
+    (cases_eq n 0)
+
+pub prefix_some : (field : Field) (o : Option (List ℕ)) (p : ℕ) → prefix_in field o ≡ Some p → p ≢ 0
+prefix_some field None p h = λ z. let row = each_row field in let same : width_of field ≡ p = cc h in omega (arith, row.some, same, z)
+prefix_some field (Some text) p h =
+    let read : ℕ → Option ℕ = λ digits. option_and_then not_zero (number_in digits (width_of field) text) in
+    let one = then_some (prefix_digits (kind_of field)) read p h in
+    let two = then_some (number_in one.0 (width_of field) text) not_zero p one.1 in
+    not_zero_some two.0 p two.1

@@ -1,6 +1,0 @@
-use Rattle.std.proofs.Common.{take}
-use Rattle.key_mask.proofs.PartLemmas.{Hold}
-use Rattle.key_mask.proofs.masks.lengths_from.Given as goal
-
-abbrev pub invariant-parts : goal.invariant-parts
-invariant-parts l = Hold (take l.field-index l.parts) l.lengths
