@@ -1,3 +1,7 @@
-pub mod ReadingLemmas
-pub mod BeginLemmas
+pub mod RecordLemmas
+pub mod HeaderLemmas
+pub mod StepLemmas
+pub mod NextLemmas
 pub mod CaptureLemmas
+mod CutLemmas
+mod WrittenLemmas

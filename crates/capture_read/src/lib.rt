@@ -3,10 +3,9 @@
 
 pub mod laws;
 mod reader;
+mod reading;
 mod records;
 
 pub use reader::{BeginFail, Capture};
 pub use records::{CaptureFault, Frame};
 
-#[cfg(test)]
-mod tests;

@@ -1,48 +1,108 @@
-use Rattle.std.proofs.Common.{◌≤◌, Ok, Err, Some, None, ℕ, ◌+◌, length, List, refl, sym, ap, ◌∙◌, arith, Option, IfSome, subst}
-use Rattle.capture_read.specs.declared.records.Frame.{Frame}
-use Rattle.std.proofs.lemmas.List.{length-drop}
-use Rattle.capture_read.specs.Records.{record_view}
+use Rattle.std.proofs.Common.{◌≡◌, ◌≤◌, ◌+◌, ℕ, length, drop, Option, None, Some, Result, Ok, Err, IfSome, refl, sym, ap, ◌∙◌, subst, arith, rules}
+use Rattle.std.proofs.lemmas.List.{take-append-le, take_all}
+use Rattle.capture_read.specs.declared.reading.Head.{Head}
+use Rattle.capture_read.specs.Records.{Record}
+use Rattle.capture_read.specs.Reading.{Reading}
+use Rattle.capture_read.specs.Heads.{head_view}
 use Rattle.capture_read.specs.contracts.reader.Capture.{the_view}
-use Rattle.capture_read.proofs.ReadingLemmas.{stands, ended, found_next, moves_on, handed_on}
+use Rattle.capture_read.proofs.NextLemmas.{ended, goes_on, behind_same, faulty_same, frame_size, lent}
 use Rattle.capture_read.proofs.reader.Capture.next.Goals as goal
 
 pub returns-then-self : goal.returns-then-self
 returns-then-self g c =
-    let here = the_view c.self.inside in
-    let next = ended here c.args.self.now c.self.view_is c.if-self.true in
-    ((refl, λ x. tt, moves_on here c.args.self.now (Ok None) c.self.view_is next), record { ends = tt; next = next; files = refl {a = c.args._files.now} })
-
-pub returns-in_err-frame : goal.returns-in_err-frame
-returns-in_err-frame g c =
-    let here = the_view c.self.inside in
-    let fault = c.in_err-frame.field-0.0 in
-    let next = found_next here c.args.self.now c.rest_from-rest.result.now (Err fault) c.self.view_is c.if-self.false
-    (stands c.rest_from-rest.result.now c.deref.result.now c.self.inside.bytes.items c.self.inside.at c.rest_from-rest.ensures c.deref.ensures.value)
-    c.in_err-frame.ensures.value in
-    let same = handed_on c.from_residual.result fault c.from_residual.ensures.0 c.from_residual.ensures.1 in (
-      (refl, λ x. tt, moves_on here c.args.self.now (Err fault) c.self.view_is next),
-      record { ends = tt; next = sym same ∙ next; files = refl {a = c.args._files.now} },
+    let f = g.F.Files in
+    let full : c.args.self.now.count ≡ 4294967295 = sym (ap (λ (r : Reading). r.count) c.self.view_is) ∙ c.if-self.true in (
+      (refl, λ x. tt, c.self.view_is),
+      record {
+        ends = tt;
+        full = λ e. refl;
+        later = search rules;
+        read = search rules;
+        last = refl;
+        strays = refl;
+        directory = search rules;
+        slot = ended c.args.self.now (f.slots c.args.files.now).capture full;
+        others = search rules;
+      },
     )
 
-pub returns-in_default : goal.returns-in_default
-returns-in_default g c =
+pub returns-in-Ok-Some : goal.returns-in-Ok-Some
+returns-in-Ok-Some g c =
+    let f = g.F.Files in
     let here = the_view c.self.inside in
-    let next = found_next here c.args.self.now c.rest_from-rest.result.now (Ok None) c.self.view_is c.if-self.false
-    (stands c.rest_from-rest.result.now c.deref.result.now c.self.inside.bytes.items c.self.inside.at c.rest_from-rest.ensures c.deref.ensures.value)
-    (ap (λ f. record_view (Ok f)) (sym c.in_default.is) ∙ c.in_ok-frame.ensures.value) in
-    ((refl, λ x. tt, moves_on here c.args.self.now (Ok None) c.self.view_is next), record { ends = tt; next = next; files = refl {a = c.args._files.now} })
+    let now = c.args.self.now in
+    let head = c.in-Ok-Some.head in
+    let shown = c.deref.result.now in
+    let found : c.read_into.result ≡ Ok (Some head) = c.in-Ok-Some.is ∙ ap Ok c.in-Ok-Some.field-0-is in
+    let small : head.captured ≤ 262144 =
+        subst (λ (o : Option Head). IfSome o (λ h. h.captured ≤ 262144)) c.in-Ok-Some.field-0-is c.in-Ok-Some.ensures.captured in
+    let room : 16 + head.captured ≤ length shown =
+        omega (arith, small, c.self.invariant, c.deref.ensures.len, c.deref_mut.ensures.len, c.read_into.auto.buf) in
+    let size = frame_size head.captured shown room in
+    let buf = c.read_into.new.buf in
+    let long : length buf ≡ c.self.inside.buf.len = omega (arith, c.deref_mut.ensures.len, c.read_into.auto.buf) in
+    let same : shown ≡ buf = c.deref.ensures.value
+        ∙ (take-append-le c.self.inside.buf.len buf (drop (length buf) c.self.inside.buf.items) (omega (arith, long))
+        ∙ take_all c.self.inside.buf.len buf (omega (arith, long))) in
+    let item = lent here now head.captured head.len buf shown c.self.view_is same room in (
+      (refl, λ x. tt, behind_same here now head.captured _ c.self.view_is (sym size)),
+      record {
+        ends = tt;
+        full = λ e. absurd (c.if-self.false (ap (λ (r : Reading). r.count) c.self.view_is ∙ e));
+        later = search rules;
+        read = search rules;
+        last = search rules;
+        strays = search rules;
+        directory = search rules;
+        slot = goes_on here now (head_view here.at (drop 16 c.read_into.new.buf) c.read_into.result) _
+            (f.slots c.args.files.now).capture (f.slots c.read_into.new.files).capture c.self.view_is c.if-self.false
+            (ap (head_view here.at (drop 16 c.read_into.new.buf)) found ∙ ap (λ (r : Record). Ok (Some r)) item)
+            c.read_into.ensures.slot;
+        others = search rules;
+      },
+    )
 
-pub invariant_of-self-2 : goal.invariant_of-self-2
-invariant_of-self-2 g c =
-    let P : Option Frame → Type 0 = λ found. IfSome found (λ frame. 16 + length frame.bytes.now ≤ length c.rest_from-rest.result.now) in
-    let room : 16 + length c.in-Some.frame.bytes.now ≤ length c.rest_from-rest.result.now = subst P c.in-Some.is c.in_ok-frame.ensures.room in
-    omega (arith, c.self.invariant, length-drop c.self.inside.at c.deref.result.now, ap (λ (l : List ℕ). length l) c.rest_from-rest.ensures, c.deref.ensures.len, room)
-
-pub returns : goal.returns
-returns g c =
+pub returns-in-Ok-None : goal.returns-in-Ok-None
+returns-in-Ok-None g c =
+    let f = g.F.Files in
     let here = the_view c.self.inside in
-    let found = record_view (Ok (Some c.in-Some.frame)) in
-    let next = found_next here c.args.self.now c.rest_from-rest.result.now found c.self.view_is c.if-self.false
-    (stands c.rest_from-rest.result.now c.deref.result.now c.self.inside.bytes.items c.self.inside.at c.rest_from-rest.ensures c.deref.ensures.value)
-    (ap (λ f. record_view (Ok f)) (sym c.in-Some.is) ∙ c.in_ok-frame.ensures.value) in
-    ((refl, λ x. tt, moves_on here c.args.self.now found c.self.view_is next), record { ends = tt; next = next; files = refl {a = c.args._files.now} })
+    let now = c.args.self.now in
+    let found : c.read_into.result ≡ Ok None = c.in-Ok-None.is ∙ ap Ok c.in-Ok-None.field-0-is in (
+      (refl, λ x. tt, c.self.view_is),
+      record {
+        ends = tt;
+        full = λ e. refl;
+        later = search rules;
+        read = search rules;
+        last = search rules;
+        strays = search rules;
+        directory = search rules;
+        slot = goes_on here now (head_view here.at (drop 16 c.read_into.new.buf) c.read_into.result) (Ok None)
+            (f.slots c.args.files.now).capture (f.slots c.read_into.new.files).capture c.self.view_is c.if-self.false
+            (ap (head_view here.at (drop 16 c.read_into.new.buf)) found)
+            c.read_into.ensures.slot;
+        others = search rules;
+      },
+    )
+
+pub returns-in-Err : goal.returns-in-Err
+returns-in-Err g c =
+    let f = g.F.Files in
+    let here = the_view c.self.inside in
+    let now = c.args.self.now in (
+      (refl, λ x. tt, faulty_same here now c.self.view_is),
+      record {
+        ends = tt;
+        full = λ e. absurd (c.if-self.false (ap (λ (r : Reading). r.count) c.self.view_is ∙ e));
+        later = search rules;
+        read = search rules;
+        last = search rules;
+        strays = search rules;
+        directory = search rules;
+        slot = goes_on here now (head_view here.at (drop 16 c.read_into.new.buf) c.read_into.result) (Err c.in-Err.fault)
+            (f.slots c.args.files.now).capture (f.slots c.read_into.new.files).capture c.self.view_is c.if-self.false
+            (ap (head_view here.at (drop 16 c.read_into.new.buf)) c.in-Err.is)
+            c.read_into.ensures.slot;
+        others = search rules;
+      },
+    )
