@@ -1,12 +1,15 @@
 pub mod BytesLemmas
 pub mod EightLemmas
+pub mod Ipv6AgainLemmas
+pub mod Ipv6GrammarLemmas
 pub mod Ipv6PrintLemmas
 pub mod Ipv6ReadLemmas
 pub mod ItemLemmas
+pub mod KeyLemmas
 pub mod MaskLemmas
 pub mod NumberLemmas
 pub mod PartLemmas
 pub mod PrefixLemmas
-pub mod VectorLemmas
-pub mod KeyLemmas
 pub mod PrintLemmas
+pub mod ValueLemmas
+pub mod VectorLemmas

@@ -1,6 +1,7 @@
 pub mod Bytes
 pub mod Fields
 pub mod Ipv6
+pub mod Ipv6Grammar
 pub mod Items
 pub mod Keys
 pub mod Masks
