@@ -1,3 +1,6 @@
-pub mod Fields
 pub mod Frames
+pub mod Ipv4Alone
+pub mod Laws
+pub mod Networks
 pub mod Packets
+pub mod Transports

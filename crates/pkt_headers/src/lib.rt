@@ -2,8 +2,11 @@
 #![tactic(auto)]
 
 mod frames;
+pub mod laws;
+mod networks;
 mod packets;
 #[cfg(test)]
 mod tests;
+mod transports;
 
 pub use packets::{Attr, Packet, packet_of, weight};

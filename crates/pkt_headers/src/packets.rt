@@ -1,9 +1,11 @@
 //! Packets, and what each of them adds to a sketch.
-ghost use Rattle.std.specs.Prelude.{◌≡◌};
-ghost use Rattle.pkt_headers.specs.Packets.{packet_in, weight_of};
+ghost use Rattle.std.specs.Prelude.{◌≡◌, ◌+◌, ◌++◌, length};
+ghost use Rattle.pkt_headers.specs.Packets.{packet_in, vector_of, weight_of};
 
-use crate::frames::{TTL, byte_where, flags, has_flags, has_ports, is_ipv4, network_place, vector};
-use key_mask::KeyVec;
+use crate::frames::{TYPE_BYTES, network_offset, type_bytes};
+use crate::networks::{Network, network_in};
+use crate::transports::{Transport, transport_in};
+use key_mask::{KEY_BYTES, KeyVec};
 
 /// What the switch knows of a packet. What its frame does not have is 0.
 #[derive(Clone, Copy, Debug, PartialEq, Eq)]
@@ -31,16 +33,48 @@ pub enum Attr {
 pub fn packet_of(frame: &[u8], orig_len: u32) -> Packet
     ensures { result ≡ packet_in frame.now orig_len }
 {
-    let at = network_place(frame);
-    let ipv4 = is_ipv4(frame, at);
-    let ports = has_ports(frame, at, ipv4);
-    let tcp = has_flags(frame, at, ports);
+    let at = network_offset(frame);
+    let network = network_in(frame, at).unwrap_or(Network::none());
+    let transport = transport_in(frame, &network).unwrap_or(Transport::none());
+    let kind = type_bytes(frame, at);
     Packet {
-        vec: KeyVec(vector(frame, at, ipv4, ports)),
+        vec: KeyVec(vector(&network, &transport, kind)),
         len: orig_len,
-        ttl: byte_where(ipv4, frame, at + TTL),
-        flags: flags(frame, at, tcp),
+        ttl: network.ttl,
+        flags: transport.flags,
     }
+}
+
+/// The fields of a key vector, one after another.
+fn vector(network: &Network, transport: &Transport, kind: [u8; TYPE_BYTES]) -> [u8; KEY_BYTES]
+    ensures { result ≡ vector_of network.now transport.now kind }
+{
+    let [source_high, source_low, destination_high, destination_low] = transport.ports;
+    let [kind_high, kind_low] = kind;
+    let between = [
+        source_high,
+        source_low,
+        destination_high,
+        destination_low,
+        network.protocol,
+        network.service,
+        kind_high,
+        kind_low,
+    ];
+    let mut first = [0; 16];
+    put_both(&mut first, &network.ipv4, &between);
+    let mut bytes = [0; KEY_BYTES];
+    put_both(&mut bytes, &first, &network.ipv6);
+    bytes
+}
+
+/// Writes one behind the other.
+fn put_both(bytes: &mut [u8], front: &[u8], back: &[u8])
+    requires { length front.now + length back.now ≡ length bytes.old }
+    ensures { bytes.new ≡ front.now ++ back.now }
+{
+    bytes[..front.len()].copy_from_slice(front);
+    bytes[front.len()..].copy_from_slice(back);
 }
 
 /// What the packet weighs in a sketch of this attribute.
