@@ -2,7 +2,7 @@
 use Rattle.std.proofs.Common.{◌≡◌, ◌<◌, List, [], ◌∷◌, ◌++◌, map, length, Option, None, Some, Result, Ok, Err, sym, ap, ◌∙◌, append_assoc, arith}
 use Rattle.std.proofs.lemmas.List.{append-nil}
 use Rattle.capture_read.specs.declared.records.CaptureFault.{CaptureFault}
-use Rattle.capture_read.specs.Records.{Record, view}
+use Rattle.capture_read.specs.Records.{Record, record_view}
 use Rattle.capture_read.specs.declared.records.Frame.{Frame}
 use Rattle.pkt_headers.specs.declared.packets.Packet.{Packet}
 use Rattle.pkt_headers.specs.Packets.{packet_in}
@@ -63,6 +63,6 @@ fewer reading packet e = rw (records_step reading) (fewer_behind (next_in readin
 
 -- the packet of a frame that is lent
 pub packet_seen : (frame : Frame) (packet : Packet) → packet ≡ packet_in frame.bytes.now frame.len
-    → Ok (Some packet) ≡ packet_by (view (Ok (Some frame)))
+    → Ok (Some packet) ≡ packet_by (record_view (Ok (Some frame)))
 unfolding packet_at
 packet_seen frame packet e = ap (λ (p : Packet). Ok (Some p)) e

@@ -28,7 +28,7 @@ hot_job = record {
   bits = 5;
 }
 
-built : verdict_in (codes "add hot cms 1 hash_key=src_ip attr=packets filter=all memory=32\nrun\nread hot\nquery hot src_ip:10.0.0.1\n")
+built : verdict_in (codes "add hot cms 1 key=src_ip attr=packets filter=all memory=32\nrun\nread hot\nquery hot src_ip:10.0.0.1\n")
     ≡ Built (record {
       job = hot_job;
       commands = commands.Run ∷ commands.Read (codes "hot")
@@ -37,15 +37,15 @@ built : verdict_in (codes "add hot cms 1 hash_key=src_ip attr=packets filter=all
 unfolding verdict_in job_of size_bits script_in plain_line_in command_in verb_named add_in named_in query_in alone_in kind_named rows_in attr_in attr_named behind_label number_in key_in with_item field_named terms_in with_term vector_of address_in mask_bytes_of
 built = refl
 
-sums_of_least : verdict_in (codes "add hot sumax_sum 3 hash_key=src_ip attr=packets filter=all memory=32\n") ≡ Foreign
+sums_of_least : verdict_in (codes "add hot sumax_sum 3 key=src_ip attr=packets filter=all memory=32\n") ≡ Foreign
 unfolding verdict_in job_of size_bits script_in plain_line_in command_in verb_named add_in kind_named rows_in attr_in attr_named behind_label number_in key_in with_item field_named terms_in
 sums_of_least = refl
 
-sixteen : verdict_in (codes "add hot cms 1 hash_key=src_ip attr=packets filter=all memory=16\n") ≡ Foreign
+sixteen : verdict_in (codes "add hot cms 1 key=src_ip attr=packets filter=all memory=16\n") ≡ Foreign
 unfolding verdict_in job_of size_bits script_in plain_line_in command_in verb_named add_in kind_named rows_in attr_in attr_named behind_label number_in key_in with_item field_named terms_in
 sixteen = refl
 
-stated : verdict_in (codes "add hot cms 1 hash_key=src_ip attr=packets filter=all memory=32\nstat\n") ≡ Foreign
+stated : verdict_in (codes "add hot cms 1 key=src_ip attr=packets filter=all memory=32\nstat\n") ≡ Foreign
 unfolding verdict_in job_of size_bits script_in plain_line_in command_in verb_named add_in alone_in kind_named rows_in attr_in attr_named behind_label number_in key_in with_item field_named terms_in
 stated = refl
 
@@ -62,6 +62,6 @@ largest : size_bits 1024 ≡ Some 10
 unfolding size_bits
 largest = refl
 
-message : message_of (stops.Script (record { line = 12; kind = faults.Key (record { kind = BadPrefix; place = 7 }) })) ≡ codes "bad script line 12: hash_key bad prefix 7\n"
+message : message_of (stops.Script (record { line = 12; kind = faults.Key (record { kind = BadPrefix; place = 7 }) })) ≡ codes "bad script line 12: key bad prefix 7\n"
 unfolding digits
 message = refl

@@ -6,14 +6,14 @@ use Rattle.std.proofs.Math.Pow.{pow_mono}
 use Rattle.std.proofs.lemmas.List.FromFn.{get_or-map-range_with_len, length-map-range_with_len}
 use Rattle.addr_translate.specs.Blocks.{Block}
 use Rattle.addr_translate.specs.Geometry.{bits_of, array_count}
-use Rattle.addr_translate.proofs.PlanLemmas as plans
+use Rattle.addr_translate.proofs.GeometryLemmas as plans
 use Rattle.reg_file.specs.Registers.{Contents, Dims}
 use Rattle.reg_file.specs.declared.traits.DeviceFault.{DeviceFault}
 use Rattle.sketch_defs.specs.Tasks.{Sketch}
 use Rattle.readout.specs.declared.views.Placed.{Placed}
 use Rattle.readout.specs.declared.views.Side.{Side}
 use Rattle.readout.specs.declared.views.Side.TheVariants.{Live, Frozen}
-use Rattle.readout.specs.PlacedTasks.{PlacedTask, no_place, placed_task_at, index_at, is_named, block_of, HasSide, IsPlaced, IsPlacedTask, IsFit, IsShaped, live_bits, frozen_bits, register_at}
+use Rattle.readout.specs.PlacedTasks.{PlacedTask, no_place, placed_task_at, place_at, is_named, block_of, HasSide, IsPlaced, IsPlacedTask, IsFit, IsShaped, live_bits, frozen_bits, register_at}
 use Rattle.flymon_engine.specs.Script.{Job}
 use Rattle.flymon_engine.specs.Cells.{default_geometry, placed_at, placed_task_of}
 
@@ -32,15 +32,15 @@ pub task_is : (job : Job) → (placed_task_of job).task ≡ job.task
 unfolding placed_task_of
 task_is job = refl
 
-pub place_is : (job : Job) (row : ℕ) → row < job.task.rows → index_at (placed_task_of job) row ≡ placed_at job row
+pub place_is : (job : Job) (row : ℕ) → row < job.task.rows → place_at (placed_task_of job) row ≡ placed_at job row
 unfolding placed_task_of
 place_is job row inside = get_or-map-range_with_len (placed_at job) 0 job.task.rows row row no_place inside (omega arith)
 
 pub placed_in : (job : Job) (at row : ℕ) → at < length (placed_task_of job ∷ []) → row < length (placed_task_at (placed_task_of job ∷ []) at).places
-    → index_at (placed_task_at (placed_task_of job ∷ []) at) row ≡ placed_at job row
+    → place_at (placed_task_at (placed_task_of job ∷ []) at) row ≡ placed_at job row
 placed_in job at row inside below =
     let only = only_task job at inside in
-    ap (λ s. index_at s row) only
+    ap (λ s. place_at s row) only
     ∙ place_is job row (subst (λ (n : ℕ). row < n) (ap (λ (s : PlacedTask). length s.places) only ∙ places_count job) below)
 
 pub row_in : (job : Job) (at row : ℕ) → at < length (placed_task_of job ∷ []) → row < length (placed_task_at (placed_task_of job ∷ []) at).places → row < job.task.rows
@@ -83,7 +83,7 @@ side_block Frozen job row some has = absurd (not_frozen (frozen_bits (placed_tas
 
 pub block_in : (job : Job) (side : Side) (at row : ℕ) → at < length (placed_task_of job ∷ []) → row < length (placed_task_at (placed_task_of job ∷ []) at).places
     → HasSide side (placed_task_at (placed_task_of job ∷ []) at)
-    → block_of side (index_at (placed_task_at (placed_task_of job ∷ []) at) row) ≡ (placed_at job row).region
+    → block_of side (place_at (placed_task_at (placed_task_of job ∷ []) at) row) ≡ (placed_at job row).region
 block_in job side at row inside below has =
     let some : 1 ≤ job.task.rows = omega (arith, row_in job at row inside below) in
     ap (block_of side) (placed_in job at row inside below)
@@ -92,7 +92,7 @@ block_in job side at row inside below has =
 pub register_in : (job : Job) (side : Side) (at row index : ℕ) (cells : Contents) (value : ℕ) → at < length (placed_task_of job ∷ [])
     → row < length (placed_task_at (placed_task_of job ∷ []) at).places
     → HasSide side (placed_task_at (placed_task_of job ∷ []) at) → value ≡ cells row index
-    → value ≡ register_at cells side (index_at (placed_task_at (placed_task_of job ∷ []) at) row) index
+    → value ≡ register_at cells side (place_at (placed_task_at (placed_task_of job ∷ []) at) row) index
 register_in job side at row index cells value inside below has is =
     let place = ap (λ (p : Placed). p.array) (placed_in job at row inside below) in
     let block = ap (λ (b : Block). b.base) (block_in job side at row inside below has) in
@@ -102,7 +102,7 @@ register_in job side at row index cells value inside below has is =
 pub registers_in : (job : Job) (side : Side) (at row index : ℕ) (ok : Result ℕ DeviceFault) (cells : Option Contents) → at < length (placed_task_of job ∷ [])
     → row < length (placed_task_at (placed_task_of job ∷ []) at).places
     → HasSide side (placed_task_at (placed_task_of job ∷ []) at) → IfOk ok (λ value. IfSome cells (λ told. value ≡ told row index))
-    → IfOk ok (λ value. IfSome cells (λ told. value ≡ register_at told side (index_at (placed_task_at (placed_task_of job ∷ []) at) row) index))
+    → IfOk ok (λ value. IfSome cells (λ told. value ≡ register_at told side (place_at (placed_task_at (placed_task_of job ∷ []) at) row) index))
 registers_in job side at row index (Err e) cells inside below has is = tt
 registers_in job side at row index (Ok value) None inside below has is = tt
 registers_in job side at row index (Ok value) (Some told) inside below has is = register_in job side at row index told value inside below has is
@@ -128,8 +128,8 @@ is_placed job row few most inside =
       array = omega (arith, few, inside);
       region = rw geometry (omega (arith, room));
       bits_are = refl;
-      counted_packets = tt;
-      past_bits = refl;
+      frozen_region = tt;
+      frozen_size = refl;
     }
 
 each_placed : (job : Job) → job.task.rows ≤ 4 → job.bits ≤ 10 → (k : ℕ) (d : Placed) → k < length (placed_task_of job).places

@@ -15,7 +15,7 @@ abbrev pub refusal : ReadFault → List ℕ
 refusal Unknown = codes "unknown\n"
 refusal NoFrozen = codes "nothing frozen\n"
 refusal NoAnswer = codes "no answer\n"
-refusal BadKey = codes "bad hash_key\n"
+refusal BadKey = codes "bad key\n"
 refusal Device = codes "\n"
 refusal Write = codes "\n"
 

@@ -3,7 +3,7 @@ ghost use Rattle.std.specs.Prelude.{◌≡◌, ℕ, ◌+◌, ◌^◌, ◌<◌, �
 ghost use Rattle.outside.specs.Faults.{HasCause};
 ghost use Rattle.outside.specs.Told.{Stays};
 ghost use Rattle.addr_translate.specs.Geometry.{array_count, group_in};
-ghost use Rattle.readout.specs.PlacedTasks.{placed_task_at, index_at, is_named, block_of, HasSide, IsFit, IsShaped, register_at};
+ghost use Rattle.readout.specs.PlacedTasks.{placed_task_at, place_at, is_named, block_of, HasSide, IsFit, IsShaped, register_at};
 ghost use Rattle.flymon_engine.specs.Cells.{default_geometry, placed_task_of};
 ghost use Rattle.flymon_engine.specs.Live.{job_at, mask_at, free_at, largest_at, rows_on};
 

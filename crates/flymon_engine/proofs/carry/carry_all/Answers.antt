@@ -17,7 +17,7 @@ returns-in-Err-clause-calls g c =
 pub returns-in-Err-clause-sent : goal.returns-in-Err-clause-sent
 returns-in-Err-clause-sent g c =
     let r = g.R.RegFile in let o = g.O.Sink in
-    let key = c.args.live.now.hash_key in
+    let hash_key = c.args.live.now.hash_key in
     let rest = text_from hash_key (job_at c.args.live.now) c.args.frames.now.fault (start c.args.frames.now.packets.items) c.args.commands.now in
     if_told (r.contents c.add.new.regs)
     (sends_fault (Unit {0}) c.in-Err.halt (o.faults c.args.out.now) (o.faults c.add.new.out) (r.faults c.args.regs.now) (r.faults c.add.new.regs)
@@ -28,7 +28,7 @@ returns-in-Err-clause-sent g c =
 
 pub carry_commands-requires-clause-cells : goal.carry_commands-requires-clause-cells
 carry_commands-requires-clause-cells g c =
-    cells_begin c.args.live.now.hash_key (job_at c.args.live.now) (g.R.RegFile.cells c.add.new.regs) c.in-Ok.ensures.contents
+    cells_begin c.args.live.now.hash_key (job_at c.args.live.now) (g.R.RegFile.contents c.add.new.regs) c.in-Ok.ensures.contents
 
 pub returns-clause-sent : goal.returns-clause-sent
 returns-clause-sent g c =

@@ -29,7 +29,7 @@ commands-init g c =
 
 pub returns-in-Err : goal.returns-in-Err
 returns-in-Err g c =
-    let r = g.R.RegFile in let o = g.O.Sink in let job = job_at c.args.live.now in let key = c.args.live.now.hash_key in
+    let r = g.R.RegFile in let o = g.O.Sink in let job = job_at c.args.live.now in let hash_key = c.args.live.now.hash_key in
     let packets = c.args.packets.now in let commands = c.args.commands.now in let fault = c.args.fault in
     let command = c.command-item.result in
     let index = c.commands.command-index in
@@ -45,7 +45,7 @@ returns-in-Err g c =
           c.commands.invariant.later c.commands.invariant.regs_later c.in-Err.ensures.cause;
       told = told_then (r.contents c.args.regs.now) (r.contents c.commands.regs) (r.contents c.carry_one.new.regs) (λ x y z p q. tt)
           c.commands.invariant.told c.carry_one.ensures.told;
-      cells = lays_stop c.in-Err.halt (r.contents c.carry_one.new.regs) hash_key (job_at c.args.live.now) packets next (meets now fault command)
+      contents = lays_stop c.in-Err.halt (r.contents c.carry_one.new.regs) hash_key (job_at c.args.live.now) packets next (meets now fault command)
           (state_from job fault now (drop index commands)) (state_from job fault (start packets) commands) c.in-Err.ensures.met
           (λ here. state_met job fault packets c.commands.taken next commands index command inside is refl here) c.commands.invariant.last c.in-Err.ensures.contents;
       calls = calls_stop c.in-Err.halt (r.calls c.args.regs.now) (r.calls c.commands.regs) (r.calls c.carry_one.new.regs)
@@ -65,7 +65,7 @@ returns-in-Err g c =
 
 pub commands-preserved : goal.commands-preserved
 commands-preserved g c =
-    let r = g.R.RegFile in let o = g.O.Sink in let job = job_at c.args.live.now in let key = c.args.live.now.hash_key in
+    let r = g.R.RegFile in let o = g.O.Sink in let job = job_at c.args.live.now in let hash_key = c.args.live.now.hash_key in
     let packets = c.args.packets.now in let commands = c.args.commands.now in let fault = c.args.fault in
     let command = c.command-item.result in
     let index = c.commands.command-index in
@@ -102,7 +102,7 @@ commands-preserved g c =
 
 pub returns : goal.returns
 returns g c =
-    let r = g.R.RegFile in let o = g.O.Sink in let job = job_at c.args.live.now in let key = c.args.live.now.hash_key in
+    let r = g.R.RegFile in let o = g.O.Sink in let job = job_at c.args.live.now in let hash_key = c.args.live.now.hash_key in
     let packets = c.args.packets.now in let commands = c.args.commands.now in let fault = c.args.fault in
     let now = state_at job packets c.commands.taken in
     let none : drop c.commands.command-index commands ≡ [] = drop_all c.commands.command-index commands (omega arith) in
@@ -111,7 +111,7 @@ returns g c =
       regs_later = c.commands.invariant.regs_later;
       cause = tt;
       told = c.commands.invariant.told;
-      cells = cells_last (r.contents c.commands.regs) hash_key job fault packets c.commands.taken commands (drop c.commands.command-index commands) none
+      contents = cells_last (r.contents c.commands.regs) hash_key job fault packets c.commands.taken commands (drop c.commands.command-index commands) none
           c.commands.invariant.last c.commands.invariant.cells;
       calls = calls_all_came (r.calls c.args.regs.now) (r.calls c.commands.regs) (calls_from hash_key job fault (start packets) commands)
           (calls_from hash_key job fault now (drop c.commands.command-index commands)) (ap (calls_from hash_key job fault now) none) c.commands.invariant.calls;

@@ -14,4 +14,4 @@ read-requires g c =
 pub returns-clause-value : goal.returns-clause-value
 returns-clause-value g c =
     let live = c.args.self.now in let job = job_at live in
-    registers_in job c.args._side c.args._at c.args.row c.args.index c.read.result (g.R.RegFile.cells c.read.new.self) c.requires.task c.requires.row c.requires.side c.read.ensures.value
+    registers_in job c.args._side c.args._at c.args.row c.args.index c.read.result (g.R.RegFile.contents c.read.new.self) c.requires.task c.requires.row c.requires.side c.read.ensures.value
