@@ -13,7 +13,7 @@ pub next_found : (bytes : List ℕ) (reading : Reading) (item : Record) → next
     → (reading.count ≢ 4294967295) × (record_in reading.order reading.at (drop reading.at bytes) ≡ Ok (Some item))
 next_found bytes reading item e =
     let more : reading.count ≢ 4294967295 =
-        λ full. let no : Ok None ≡ Ok (Some item) = sym (next_in-full bytes reading full) ∙ e in cc in
+    λ full. let no : Ok None ≡ Ok (Some item) = sym (next_in-full bytes reading full) ∙ e in cc in
     (more, sym (next_in-more bytes reading more) ∙ e)
 
 next_ends : (bytes : List ℕ) (reading : Reading) (item : Record) → next_in bytes reading ≡ Ok (Some item) → reading.at < item.end
@@ -53,7 +53,7 @@ enough (suc m) zero bytes reading a b = sym (none_within (suc m) bytes reading (
 enough (suc m) (suc n) bytes reading a b =
     rest_counts bytes reading (next_in bytes reading) m (λ later. n)
     (λ x e. let on = next_ends bytes reading x e in
-        enough m n bytes (moved reading (Ok (Some x))) (omega (arith, a, on)) (omega (arith, b, on)))
+    enough m n bytes (moved reading (Ok (Some x))) (omega (arith, a, on)) (omega (arith, b, on)))
 
 abbrev bytes_left : List ℕ → Reading → ℕ
 bytes_left bytes reading = length bytes - reading.at
@@ -65,7 +65,7 @@ step_by zero bytes reading e = rw (nothing_left bytes reading e) refl
 step_by (suc fuel) bytes reading e =
     rest_counts bytes reading (next_in bytes reading) fuel (bytes_left bytes)
     (λ x is. let on = next_ends bytes reading x is in
-        enough fuel (bytes_left bytes (moved reading (Ok (Some x)))) bytes (moved reading (Ok (Some x))) (omega (arith, e, on)) (omega arith))
+    enough fuel (bytes_left bytes (moved reading (Ok (Some x)))) bytes (moved reading (Ok (Some x))) (omega (arith, e, on)) (omega arith))
 
 -- what is left of a capture is its next record, and what is left behind it
 pub records_step : (bytes : List ℕ) (reading : Reading)

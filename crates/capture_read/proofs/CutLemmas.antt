@@ -18,7 +18,7 @@ next_front xs ys reading item e =
     let (more, here) = next_found xs reading item e in
     let has = found reading.order reading.at (drop reading.at xs) item here in
     let split : drop reading.at (xs ++ ys) ≡ drop reading.at xs ++ ys =
-        drop-append-le reading.at xs ys (omega (arith, has.head, length-drop reading.at xs)) in
+    drop-append-le reading.at xs ys (omega (arith, has.head, length-drop reading.at xs)) in
     next_in-more (xs ++ ys) reading more
     ∙ (ap (record_in reading.order reading.at) split
     ∙ found_in_more reading.order reading.at (drop reading.at xs) ys item here)
@@ -38,7 +38,7 @@ front_by m xs ys reading (Ok None) e more = front_none (records_in (xs ++ ys) re
 front_by m xs ys reading (Ok (Some item)) e more =
     let behind = moved reading (Ok (Some item)) in
     let step : records_in (xs ++ ys) reading ≡ before_rest (Ok (Some item)) (records_in (xs ++ ys) behind) =
-        records_by (xs ++ ys) reading (Ok (Some item)) (next_front xs ys reading item e) in
+    records_by (xs ++ ys) reading (Ok (Some item)) (next_front xs ys reading item e) in
     subst (λ (r : Records). IsFront (item ∷ (records_within m xs behind).list) r.list) (sym step)
     (front_more item (records_within m xs behind).list (records_in (xs ++ ys) behind).list (more item))
 

@@ -1,17 +1,19 @@
 -- One step of a capture's reading.
-use Rattle.std.proofs.Common.{◌≡◌, ◌≢◌, ℕ, ◌+◌, ◌-◌, ◌≤◌, ◌==◌, Bool, true, false, List, length, take, drop, Option, None, Some, Result, Ok, Err, if◌then◌else◌, refl, sym, ap, ◌∙◌, subst, arith}
+use Rattle.std.proofs.Common.{◌≡◌, ◌≢◌, ℕ, ◌+◌, ◌-◌, ◌≤◌, ◌==◌, Bool, true, false, List, length, take, drop, Option, None, Some, Result, Ok, Err, if◌then◌else◌, IfSome, refl, sym, ap, ◌∙◌, subst, arith}
 use Rattle.std.proofs.lemmas.Bool.Decides.{nat_tests}
 use Rattle.std.proofs.lemmas.List.{length-drop, length-take}
+use Rattle.outside.specs.Told.{Told}
 use Rattle.fm_io.specs.Slots.{Cursor, Slot, SlotMoves}
 use Rattle.fm_io.proofs.SlotLemmas.{slot_same, slot_weaker}
+use Rattle.capture_read.specs.declared.records.Order.{Order}
 use Rattle.capture_read.specs.declared.records.CaptureFault.{CaptureFault}
 use Rattle.capture_read.specs.declared.records.CaptureFault.TheVariants.{ShortHeader, BadMagic, BadLink, ShortRecord, BigRecord, Read}
 use Rattle.capture_read.specs.declared.reader.BeginFail.{BeginFail}
 use Rattle.capture_read.specs.declared.reader.BeginFail.TheVariants.{Fault}
 use Rattle.capture_read.specs.Records.{Record, record_in}
 use Rattle.capture_read.specs.Reading.{Reading, next_in}
-use Rattle.capture_read.specs.Steps.{AnswersHeader, AnswersNext, GoesOn}
-use Rattle.capture_read.specs.Heads.{AnswersOrder, ReadsRecord}
+use Rattle.capture_read.specs.Steps.{IsAt, AnswersHeader, AnswersNext, GoesOn}
+use Rattle.capture_read.specs.Heads.{AnswersOrder, ReadsHeader, ReadsRecord}
 use Rattle.capture_read.proofs.RecordLemmas.{record_of_parts}
 
 pub header_fault : (fault : CaptureFault) (old new : Cursor) → AnswersOrder (Err fault) old new → AnswersHeader (Err (Fault fault)) old new
@@ -77,8 +79,29 @@ pub lent : (here now : Reading) (n len : ℕ) (buf shown : List ℕ) → here �
 lent here now n len buf shown same is room =
     let size : 16 + n - 16 ≡ n = omega arith in
     let frame : take n (drop 16 buf) ≡ take (16 + n - 16) (drop 16 shown) =
-        ap (λ (l : List ℕ). take n (drop 16 l)) (sym is) ∙ ap (λ k. take k (drop 16 shown)) (sym size) in
+    ap (λ (l : List ℕ). take n (drop 16 l)) (sym is) ∙ ap (λ k. take k (drop 16 shown)) (sym size) in
     let end : here.at + (16 + n) ≡ now.at + (16 + length (take (16 + n - 16) (drop 16 shown))) =
-        ap (λ (r : Reading). r.at + (16 + n)) same ∙ ap (λ k. now.at + (16 + k)) (sym (frame_size n shown room)) in
+    ap (λ (r : Reading). r.at + (16 + n)) same ∙ ap (λ k. now.at + (16 + k)) (sym (frame_size n shown room)) in
     ap (λ f. record_of_parts f len (here.at + (16 + n))) frame
     ∙ ap (record_of_parts (take (16 + n - 16) (drop 16 shown)) len) end
+
+-- where the position stands afterwards
+told_at : {R : Cursor → Cursor → Type 0} (P Q : Cursor → Type 0) (a b : Option Cursor) → IfSome a P
+    → ((x y : Cursor) → P x → R x y → Q y) → Told R a b → IfSome b Q
+told_at P Q a None p step r = tt
+told_at P Q None (Some y) p step r = absurd r
+told_at P Q (Some x) (Some y) p step r = step x y p r
+
+pub at_record : (reading : Reading) (item : Record) (a b : Slot) → IsAt reading a → SlotMoves (GoesOn reading (Ok (Some item))) a b
+    → IfSome b.cursor (λ cursor. cursor.at ≡ item.end)
+at_record reading item a b here moves =
+    told_at (λ x. x.at ≡ reading.at) (λ y. y.at ≡ item.end) a.cursor b.cursor here (λ x y p r. r.answers.1) moves.cursor
+
+pub at_end : (reading : Reading) (a b : Slot) → IsAt reading a → SlotMoves (GoesOn reading (Ok None)) a b → IsAt reading b
+at_end reading a b here moves =
+    told_at (λ x. x.at ≡ reading.at) (λ y. y.at ≡ reading.at) a.cursor b.cursor here (λ x y p r. r.answers.1 ∙ p) moves.cursor
+
+pub at_start : (order : Order) (a b : Slot) → IfSome a.cursor (λ cursor. cursor.at ≡ 0)
+    → SlotMoves (ReadsHeader (Ok order)) a b → IfSome b.cursor (λ cursor. cursor.at ≡ 24)
+at_start order a b here moves =
+    told_at (λ x. x.at ≡ 0) (λ y. y.at ≡ 24) a.cursor b.cursor here (λ x y p r. r.answers.1) moves.cursor

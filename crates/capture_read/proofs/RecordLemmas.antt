@@ -67,26 +67,29 @@ found order offset rest item e = by_none (length rest == 0) refl
         → captured_in order rest ≤ 262144 → Found order offset rest item
     by_whole true t head small =
         absurd (let cut = record_in-cut order offset rest head small (grind (arith, nat_tests)) in
-            let no : Err (ShortRecord offset) ≡ Ok (Some item) = sym cut ∙ e in cc)
+        let no : Err (ShortRecord offset) ≡ Ok (Some item) = sym cut ∙ e in cc)
     by_whole false t head small =
         let whole : 16 + captured_in order rest ≤ length rest = grind (arith, nat_tests) in
         let same : Ok (Some (record_at order offset rest)) ≡ Ok (Some item) = sym (record_in-whole order offset rest head small whole) ∙ e in
         record { head = head; small = small; whole = whole; is = cc }
+
     by_big : (b : _) → nat_lt 262144 (captured_in order rest) ≡ b → 16 ≤ length rest → Found order offset rest item
     by_big true t head =
         absurd (let big = record_in-big order offset rest head (grind (arith, nat_tests)) in
-            let no : Err (BigRecord offset (captured_in order rest)) ≡ Ok (Some item) = sym big ∙ e in cc)
+        let no : Err (BigRecord offset (captured_in order rest)) ≡ Ok (Some item) = sym big ∙ e in cc)
     by_big false t head =
         by_whole (nat_lt (length rest) (16 + captured_in order rest)) refl head (grind (arith, nat_tests))
+
     by_short : (b : _) → nat_lt (length rest) 16 ≡ b → 0 < length rest → Found order offset rest item
     by_short true t some =
         absurd (let short = record_in-short order offset rest some (grind (arith, nat_tests)) in
-            let no : Err (ShortRecord offset) ≡ Ok (Some item) = sym short ∙ e in cc)
+        let no : Err (ShortRecord offset) ≡ Ok (Some item) = sym short ∙ e in cc)
     by_short false t some = by_big (nat_lt 262144 (captured_in order rest)) refl (grind (arith, nat_tests))
+
     by_none : (b : _) → (length rest == 0) ≡ b → Found order offset rest item
     by_none true t =
         absurd (let none = record_in-none order offset rest (grind (arith, nat_tests)) in
-            let no : Ok None ≡ Ok (Some item) = sym none ∙ e in cc)
+        let no : Ok None ≡ Ok (Some item) = sym none ∙ e in cc)
     by_none false t = by_short (nat_lt (length rest) 16) refl (grind (arith, nat_tests))
 
 -- a record ends behind its place
@@ -133,9 +136,9 @@ found_in_more order offset xs ys item e =
     let same : captured_in order (xs ++ ys) ≡ captured_in order xs = number_front_at order 8 xs ys (omega (arith, has.head)) in
     let more : length (xs ++ ys) ≡ length xs + length ys = length-append xs ys in
     let whole = record_in-whole order offset (xs ++ ys) (omega (arith, more, has.head)) (omega (arith, same, has.small))
-        (omega (arith, same, more, has.whole)) in
+    (omega (arith, same, more, has.whole)) in
     let frame : take (captured_in order (xs ++ ys)) (drop 16 (xs ++ ys)) ≡ take (captured_in order xs) (drop 16 xs) =
-        ap (λ n. take n (drop 16 (xs ++ ys))) same ∙ frame_front (captured_in order xs) xs ys has.whole in
+    ap (λ n. take n (drop 16 (xs ++ ys))) same ∙ frame_front (captured_in order xs) xs ys has.whole in
     let len : number_in order 4 (drop 12 (xs ++ ys)) ≡ number_in order 4 (drop 12 xs) = number_front_at order 12 xs ys (omega (arith, has.head)) in
     whole ∙ ap (λ (r : Record). Ok (Some r)) (same_record frame len (ap (λ n. offset + (16 + n)) same) ∙ sym has.is)
   where

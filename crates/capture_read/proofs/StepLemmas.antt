@@ -24,7 +24,7 @@ got place n buf old new here room yields =
     let size : length (take n buf) ≡ n = omega (arith, length-take n buf) in
     let rest : drop old.at old.bytes ≡ drop place old.bytes = ap (λ k. drop k old.bytes) here in
     let next : take n buf ≡ take n (drop place old.bytes) =
-        yields.next ∙ (ap (λ k. take k (drop old.at old.bytes)) size ∙ ap (take n) rest) in
+    yields.next ∙ (ap (λ k. take k (drop old.at old.bytes)) size ∙ ap (take n) rest) in
     record {
       bytes = yields.bytes;
       at = yields.at ∙ ap (λ k. old.at + k) size;
@@ -153,7 +153,7 @@ at_cut order place size m head body frame old mid new h is small room less yield
     let read = got (place + 16) m body mid new h.at room yields in
     let left = got_all (place + 16) m body mid new h.at read end in
     let rest : length (drop place old.bytes) < 16 + captured_in order (drop place old.bytes) =
-        omega (arith, same, left, less, ap (λ (l : List ℕ). length l) (behind_head order place head old mid h), length-drop 16 (drop place old.bytes)) in
+    omega (arith, same, left, less, ap (λ (l : List ℕ). length l) (behind_head order place head old mid h), length-drop 16 (drop place old.bytes)) in
     record {
       moves = on_then old mid new (head_on order place head old mid h) (moves_on (drop (place + 16) mid.bytes) m body mid new read);
       answers = record_in-cut order place (drop place old.bytes) h.room (omega (arith, same)) rest;
@@ -171,12 +171,12 @@ at_whole order place m it head body frame old mid new h is len small room all yi
     let read = got (place + 16) m body mid new h.at (omega (arith, room, all)) yields in
     let behind = behind_head order place head old mid h in
     let whole : 16 + captured_in order rest ≤ length rest =
-        omega (arith, same, all, read.room, h.room, ap (λ (l : List ℕ). length l) behind, length-drop 16 rest) in
+    omega (arith, same, all, read.room, h.room, ap (λ (l : List ℕ). length l) behind, length-drop 16 rest) in
     let is_frame : take (captured_in order rest) (drop 16 rest) ≡ take it.captured frame =
-        ap (λ k. take k (drop 16 rest)) (same ∙ sym all) ∙ (ap (take m) (sym behind)
-        ∙ (sym read.next ∙ (take_all m body (omega (arith, room, all)) ∙ sym front))) in
+    ap (λ k. take k (drop 16 rest)) (same ∙ sym all) ∙ (ap (take m) (sym behind)
+    ∙ (sym read.next ∙ (take_all m body (omega (arith, room, all)) ∙ sym front))) in
     let item : record_at order place rest ≡ record_with place frame it =
-        same_record is_frame (h.len ∙ sym len) (ap (λ n. place + (16 + n)) same) in
+    same_record is_frame (h.len ∙ sym len) (ap (λ n. place + (16 + n)) same) in
     record {
       moves = on_then old mid new (head_on order place head old mid h) (moves_on (drop (place + 16) mid.bytes) m body mid new read);
       answers = (

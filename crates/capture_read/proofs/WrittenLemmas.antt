@@ -35,8 +35,15 @@ length-source_bytes : (order : Order) (source : Source) → IsSource source → 
 length-source_bytes order source is =
     let captured = number_bytes order (length source.frame) in
     let len = number_bytes order source.len in
-    omega (arith, is.time, length-append source.time (captured ++ (len ++ source.frame)), length-append captured (len ++ source.frame),
-        length-append len source.frame, length-number_bytes order (length source.frame), length-number_bytes order source.len)
+    omega (
+      arith,
+      is.time,
+      length-append source.time (captured ++ (len ++ source.frame)),
+      length-append captured (len ++ source.frame),
+      length-append len source.frame,
+      length-number_bytes order (length source.frame),
+      length-number_bytes order source.len,
+    )
 
 read_source : (order : Order) (place : ℕ) (source : Source) → IsSource source
     → record_in order place (source_bytes order source) ≡ Ok (Some (first_from place source))
@@ -46,14 +53,14 @@ read_source order place source is =
     let len = number_bytes order source.len in
     let eight : drop 8 xs ≡ captured ++ (len ++ source.frame) = drop_front 8 source.time (captured ++ (len ++ source.frame)) is.time in
     let twelve : drop 12 xs ≡ len ++ source.frame =
-        sym (drop-drop 4 8 xs) ∙ (ap (drop 4) eight ∙ drop_front 4 captured (len ++ source.frame) (length-number_bytes order (length source.frame))) in
+    sym (drop-drop 4 8 xs) ∙ (ap (drop 4) eight ∙ drop_front 4 captured (len ++ source.frame) (length-number_bytes order (length source.frame))) in
     let sixteen : drop 16 xs ≡ source.frame =
-        sym (drop-drop 4 12 xs) ∙ (ap (drop 4) twelve ∙ drop_front 4 len source.frame (length-number_bytes order source.len)) in
+    sym (drop-drop 4 12 xs) ∙ (ap (drop 4) twelve ∙ drop_front 4 len source.frame (length-number_bytes order source.len)) in
     let size : captured_in order xs ≡ length source.frame =
-        ap (number_in order 4) eight ∙ number_back order (length source.frame) (len ++ source.frame) (omega (arith, is.frame)) in
+    ap (number_in order 4) eight ∙ number_back order (length source.frame) (len ++ source.frame) (omega (arith, is.frame)) in
     let long : length xs ≡ 16 + length source.frame = length-source_bytes order source is in
     let frame : take (captured_in order xs) (drop 16 xs) ≡ source.frame =
-        ap (λ k. take k (drop 16 xs)) size ∙ (ap (take (length source.frame)) sixteen ∙ take_all (length source.frame) source.frame (omega arith)) in
+    ap (λ k. take k (drop 16 xs)) size ∙ (ap (take (length source.frame)) sixteen ∙ take_all (length source.frame) source.frame (omega arith)) in
     let orig : number_in order 4 (drop 12 xs) ≡ source.len = ap (number_in order 4) twelve ∙ number_back order source.len source.frame is.len in
     record_in-whole order place xs (omega (arith, long)) (omega (arith, size, is.frame)) (omega (arith, size, long))
     ∙ ap (λ (r : Record). Ok (Some r))
@@ -84,17 +91,17 @@ read_written order (source ∷ sources) bytes reading same rest are most =
     let first = first_from reading.at source in
     let more : reading.count ≢ 4294967295 = omega arith in
     let next : next_in bytes reading ≡ Ok (Some first) =
-        next_in-more bytes reading more
-        ∙ (ap (λ (l : List ℕ). record_in reading.order reading.at l) rest
-        ∙ (ap (λ o. record_in o reading.at (source_bytes order source ++ written order sources)) same
-        ∙ found_in_more order reading.at (source_bytes order source) (written order sources) first (read_source order reading.at source is))) in
+    next_in-more bytes reading more
+    ∙ (ap (λ (l : List ℕ). record_in reading.order reading.at l) rest
+    ∙ (ap (λ o. record_in o reading.at (source_bytes order source ++ written order sources)) same
+    ∙ found_in_more order reading.at (source_bytes order source) (written order sources) first (read_source order reading.at source is))) in
     let behind : drop first.end bytes ≡ written order sources =
-        ap (λ k. drop k bytes) (omega arith)
-        ∙ (sym (drop-drop (16 + length source.frame) reading.at bytes)
-        ∙ (ap (drop (16 + length source.frame)) rest
-        ∙ drop_front (16 + length source.frame) (source_bytes order source) (written order sources) (length-source_bytes order source is))) in
+    ap (λ k. drop k bytes) (omega arith)
+    ∙ (sym (drop-drop (16 + length source.frame) reading.at bytes)
+    ∙ (ap (drop (16 + length source.frame)) rest
+    ∙ drop_front (16 + length source.frame) (source_bytes order source) (written order sources) (length-source_bytes order source is))) in
     let later : records_in bytes (moved reading (Ok (Some first))) ≡ whole_from first.end sources =
-        read_written order sources bytes (moved reading (Ok (Some first))) same behind (All-tail IsSource source sources are) (omega arith) in
+    read_written order sources bytes (moved reading (Ok (Some first))) same behind (All-tail IsSource source sources are) (omega arith) in
     records_by bytes reading (Ok (Some first)) next
     ∙ ap (λ (r : Records). let all : Records = record r { list = first ∷ r.list } in all) later
 

@@ -1,6 +1,6 @@
 -- What the calls on a capture leave of the slot that they read.
-use Rattle.std.specs.Prelude.{◌≡◌, ℕ, ◌<◌, ◌≤◌, List, Option, None, Some, Result, Ok, Err}
-use Rattle.fm_io.specs.Slots.{Cursor}
+use Rattle.std.specs.Prelude.{◌≡◌, ℕ, ◌<◌, ◌≤◌, List, Option, None, Some, IfSome, Result, Ok, Err}
+use Rattle.fm_io.specs.Slots.{Cursor, Slot}
 use Rattle.capture_read.specs.declared.records.CaptureFault.{CaptureFault}
 use Rattle.capture_read.specs.declared.records.CaptureFault.TheVariants.{Read}
 use Rattle.capture_read.specs.declared.reader.BeginFail.{BeginFail}
@@ -16,6 +16,10 @@ last_read last _ = last
 abbrev pub last_begun : {T : Type 0} → ℕ → Result T BeginFail → ℕ
 last_begun last (Err (Fault Read)) = 2
 last_begun last _ = last
+
+-- the position, where told, is the place up to which the capture was read
+abbrev pub IsAt : Reading → Slot → Type 0
+IsAt reading slot = IfSome slot.cursor (λ cursor. cursor.at ≡ reading.at)
 
 -- the position did not go back, and the bytes stayed
 pub record MovesOn (old new : Cursor) : Type 0 where

@@ -1,12 +1,12 @@
 //! The reader of captures: one buffer, into which record after record is read.
-ghost use Rattle.std.specs.Prelude.{◌≡◌, ℕ, ◌+◌, ◌*◌, ◌≤◌, Bool, true, false, Ok, None, IsErrOf, IfOk, IfSome};
+ghost use Rattle.std.specs.Prelude.{◌≡◌, ℕ, ◌+◌, ◌*◌, ◌≤◌, Bool, true, false, Ok, None, OnOk, OnSome, IsErrOf, IfOk, IfSome, ◌<◌};
 ghost use Rattle.outside.specs.Faults.{Rose};
 ghost use Rattle.fm_io.specs.Slots.{slot_at, SlotMoves, OthersStay};
 ghost use Rattle.fm_io.specs.Names.{DirectoryStays};
 ghost use Rattle.std.specs.Borrow.{sem};
 ghost use Rattle.capture_read.specs.Records.{record_view};
 ghost use Rattle.capture_read.specs.Reading.{first_reading, moved};
-ghost use Rattle.capture_read.specs.Steps.{last_read, last_begun, Begins, GoesOn};
+ghost use Rattle.capture_read.specs.Steps.{IsAt, last_read, last_begun, Begins, GoesOn};
 
 use crate::reading::{read_header, read_into};
 use crate::records::{CaptureFault, Frame, HEADER_BYTES, MOST_CAPTURED, Order, RECORD_BYTES};
@@ -59,6 +59,7 @@ impl Capture {
     pub fn begin<F: Files>(alloc: Global, files: &mut F) -> Result<Capture, BeginFail>
         requires attached { (slot_at (F.slots files.old) 2).attached ≡ true }
         requires start { IfSome (slot_at (F.slots files.old) 2).cursor (λ cursor. cursor.at ≡ 0) }
+        ensures place { IfOk result (λ capture. IsAt capture (slot_at (F.slots files.new) 2)) }
         ensures first { IfOk result (λ capture. capture ≡ first_reading capture.order) }
         ensures later { F.faults files.old ≤ F.faults files.new }
         ensures read { IsErrOf result (BeginFail.Fault CaptureFault.Read) → Rose (F.faults files.old) (F.faults files.new) }
@@ -86,10 +87,12 @@ impl Capture {
     /// Reads the next record. Its frame is lent until the capture is used again.
     pub fn next<F: Files>(&mut self, files: &mut F) -> Result<Option<Frame<'_>>, CaptureFault>
         requires attached { (slot_at (F.slots files.old) 2).attached ≡ true }
-        requires place { IfSome (slot_at (F.slots files.old) 2).cursor (λ cursor. cursor.at ≡ self.old.at) }
+        requires place { IsAt self.old (slot_at (F.slots files.old) 2) }
         requires sound { self.old.faulty ≡ false }
         ensures* ends { sem 𝓛 (EndsAs self.entry (λ v. v ≡ moved self.old (record_view self.old.at result))) }
+        ensures place { OnOk result (IsAt (moved self.old (record_view self.old.at result)) (slot_at (F.slots files.new) 2)) }
         ensures full { self.old.count ≡ 4294967295 → record_view self.old.at result ≡ Ok None }
+        ensures counted { IfOk result (λ found. OnSome found (self.old.count < 4294967295)) }
         ensures later { F.faults files.old ≤ F.faults files.new }
         ensures read { IsErrOf result CaptureFault.Read → Rose (F.faults files.old) (F.faults files.new) }
         ensures last { F.last files.new ≡ last_read (F.last files.old) result }

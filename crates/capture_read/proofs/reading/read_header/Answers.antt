@@ -34,5 +34,5 @@ returns-clause-slot g c =
     let head = c.read_full.new.buf in
     slot_ending (λ x. x.at ≡ 0) IsAtEnd (c.in-Ok.count < 24) s0 s1 c.requires.start c.in-Ok.ensures.end
     (λ x y here end yields. header_read c.in-Ok.count head c.order_in.result x y here c.in-Ok.ensures.count c.read_full.auto.buf
-        c.order_in.ensures.value c.order_in.ensures.room yields end)
+    c.order_in.ensures.value c.order_in.ensures.room yields end)
     c.in-Ok.ensures.slot
