@@ -11,5 +11,6 @@ pub mod NumberLemmas
 pub mod PartLemmas
 pub mod PrefixLemmas
 pub mod PrintLemmas
+pub mod Values
 pub mod ValueLemmas
 pub mod VectorLemmas

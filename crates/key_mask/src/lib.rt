@@ -9,8 +9,8 @@ mod keys;
 mod masks;
 mod numbers;
 mod printing;
+mod reading;
 mod spelling;
-mod values;
 mod vectors;
 
 pub use eights::{eight_at, eight_left};
@@ -20,5 +20,5 @@ pub use keys::{parse_key, put_key};
 pub use masks::{Mask, mask_bytes, mask_of, xors_to};
 pub use numbers::number_of;
 pub use printing::{Line, put_items};
-pub use values::value_of;
+pub use reading::value_of;
 pub use vectors::{KeyVec, xor_of};

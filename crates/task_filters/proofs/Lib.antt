@@ -1,3 +1,4 @@
 pub mod AgainLemmas
 pub mod ByteLemmas
 pub mod FilterLemmas
+pub mod Values
