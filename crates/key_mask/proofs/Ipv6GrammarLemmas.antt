@@ -9,7 +9,8 @@ use Rattle.texts.specs.Cuts.{parts}
 use Rattle.texts.proofs.CutLemmas.{free_of, split_last, split_more}
 use Rattle.key_mask.specs.Numbers.{◌>>=◌, hex_digit_in}
 use Rattle.key_mask.specs.Ipv6.{hex_after, group_in, groups_in, side_in, double_from, full_in, sides_in, eight_groups_at, eight_groups_in}
-use Rattle.key_mask.specs.Ipv6Grammar.{AreGroups, IsFull, IsShort, AllAreRead, NoOthersAreRead}
+use Rattle.key_mask.specs.Ipv6Grammar.{AreGroups, IsFull, IsShort}
+use Rattle.key_mask.specs.Laws.{AddressesAreRead, NoOthersAreRead}
 
 abbrev is_colon : ℕ → Bool
 is_colon b = b == 58
@@ -181,7 +182,7 @@ short_texts text groups h =
       h.groups_are,
     ) refl
 
-pub all_are_read : AllAreRead
+pub all_are_read : AddressesAreRead
 all_are_read text groups (inl full) = rw full.text_is (full_texts full.texts groups full.each full.eight)
 all_are_read text groups (inr short) = short_texts text groups short
 

@@ -8,6 +8,7 @@ pub mod ItemLemmas
 pub mod KeyLemmas
 pub mod MaskLemmas
 pub mod NumberLemmas
+pub mod OrderLemmas
 pub mod PartLemmas
 pub mod PrefixLemmas
 pub mod PrintLemmas

@@ -6,6 +6,7 @@ mod fields;
 mod ipv6;
 mod items;
 mod keys;
+pub mod laws;
 mod masks;
 mod numbers;
 mod printing;
