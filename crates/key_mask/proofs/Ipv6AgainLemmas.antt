@@ -48,7 +48,7 @@ group_again g h =
       ]
     ]
 
-texts_are : (gs : List ℕ) → AreSmall gs → AreGroups (map group_text gs) gs
+pub texts_are : (gs : List ℕ) → AreSmall gs → AreGroups (map group_text gs) gs
 texts_are [] small = tt
 texts_are (g ∷ gs) small = (group_again g small.0, texts_are gs small.1)
 

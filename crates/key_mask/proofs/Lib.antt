@@ -13,5 +13,6 @@ pub mod PartLemmas
 pub mod PrefixLemmas
 pub mod PrintLemmas
 pub mod Values
+pub mod SpellingLemmas
 pub mod ValueLemmas
 pub mod VectorLemmas

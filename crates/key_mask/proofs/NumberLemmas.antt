@@ -1,10 +1,11 @@
 -- Numbers are read as what they were printed of.
-use Rattle.std.proofs.Common.{◌≡◌, ◌≢◌, ℕ, zero, suc, ◌+◌, ◌-◌, ◌*◌, ◌^◌, ◌<◌, ◌≤◌, ◌==◌, ◌&&◌, ◌||◌, Bool, true, false, nat_lt, nat_le, List, [], ◌∷◌, length, slice_index, get_or, cond, Option, None, Some, sym, refl, ap, ◌∙◌, arith, ⊎_elim, eqb-true}
+use Rattle.std.proofs.Common.{◌≡◌, ◌≢◌, ℕ, zero, suc, ◌+◌, ◌-◌, ◌*◌, ◌^◌, ◌<◌, ◌≤◌, ◌==◌, ◌&&◌, ◌||◌, Bool, true, false, not, inl, inr, nat_lt, nat_le, List, [], ◌∷◌, length, slice_index, get_or, cond, Option, None, Some, sym, refl, ap, ◌∙◌, arith, ⊎_elim, eqb-true}
 use Rattle.std.specs.List.{list_all}
 use Rattle.std.specs.Fmt.{decimal}
-use Rattle.std.specs.Char.{digit_value, digit_char}
+use Rattle.std.specs.Char.{digit_value, digit_char, is_ascii_uppercase}
 use Rattle.std.specs.Str.Parse.{AllDigits, digits_value_after}
-use Rattle.std.proofs.lemmas.Bool.{cases_eq, false≢true, ne_eqb}
+use Rattle.std.proofs.lemmas.Bool.{and_parts, cases_eq, cases_lt, false≢true, le-ltb, ne_eqb}
+use Rattle.std.specs.Option.{option_map_or}
 use Rattle.std.proofs.lemmas.Bool.Decides.{nat_tests}
 use Rattle.std.proofs.lemmas.Fmt.{decimal_digit, decimal-digits_value, decimal_is_IsNumeral, first_decimal, length-decimal-le}
 use Rattle.std.proofs.lemmas.Str.{digit_value_digit}
@@ -29,7 +30,7 @@ number_again most limit n within small some fits =
     let up : nat_le n limit ≡ true = grind (arith, nat_tests) in
     rw (begun, short, digits_read 0 (decimal n) numeral.0.1, numeral.1, up) refl
 
-digits_pass : (p : ℕ → Bool) → ((c : ℕ) → 48 ≤ c → c ≤ 57 → p c ≡ true) → (digits : List ℕ) → AllDigits 10 digits → list_all p digits ≡ true
+pub digits_pass : (p : ℕ → Bool) → ((c : ℕ) → 48 ≤ c → c ≤ 57 → p c ≡ true) → (digits : List ℕ) → AllDigits 10 digits → list_all p digits ≡ true
 digits_pass p each [] d = refl
 digits_pass p each (c ∷ cs) d =
     let k = digit_from_value c d.0 in
@@ -130,3 +131,26 @@ decimal_lead n small =
     let other : (slice_index (decimal n) 0 == 48) ≡ false = ne_eqb (slice_index (decimal n) 0) 48 (λ z. omega (arith, first, z)) in
     grind (arith, nat_tests, other))
     (cases_eq n 0)
+
+-- ---- a hexadecimal digit in lower case is what is printed of it
+
+abbrev is_digit_spelled : ℕ → Bool
+is_digit_spelled c = option_map_or (λ d. is_ascii_uppercase c || (c == digit_char d && nat_lt d 16)) (hex_digit_in c) true
+
+spelled_cases : (c d : ℕ) (o : Option ℕ) → o ≡ Some d → option_map_or (λ d. is_ascii_uppercase c || (c == digit_char d && nat_lt d 16)) o true ≡ true
+    → is_ascii_uppercase c ≡ false → (c == digit_char d && nat_lt d 16) ≡ true
+spelled_cases c d o e h lower = let found : (is_ascii_uppercase c || (c == digit_char d && nat_lt d 16)) ≡ true = rw e at h in rw lower at found
+
+pub digit_is : (c d : ℕ) → hex_digit_in c ≡ Some d → not (is_ascii_uppercase c) ≡ true → (c ≡ digit_char d) × (d < 16)
+digit_is c d e h =
+    elim (cases_lt c 123) [
+      | inl low ↦
+          let lower : is_ascii_uppercase c ≡ false = elim (is_ascii_uppercase c) as (λ b. not b ≡ true → b ≡ false) [ | true ↦ λ z. absurd (false≢true z) | false ↦ λ z. refl ] h in
+          let both = and_parts (c == digit_char d) (nat_lt d 16) (spelled_cases c d (hex_digit_in c) e (each_below is_digit_spelled 123 refl c low) lower) in
+          let small : nat_lt d 16 ≡ true = both.1 in
+          (eqb-true c (digit_char d) both.0, grind (arith, nat_tests, small))
+      | inr high ↦
+          let none : hex_digit_in c ≡ None =
+          rw (le-ltb c 48 (omega arith), le-ltb c 58 (omega arith), le-ltb c 65 (omega arith), le-ltb c 91 (omega arith), le-ltb c 97 (omega arith), le-ltb c 123 high) refl in
+          absurd (let wrong : None ≡ Some d = sym none ∙ e in let bad : ⊥ = cc in bad)
+    ]
