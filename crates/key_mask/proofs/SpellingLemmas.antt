@@ -1,11 +1,12 @@
 -- Values in their canonical spellings are what is printed of them.
 use Rattle.std.proofs.Common.{◌≡◌, ◌≢◌, ℕ, zero, suc, ◌+◌, ◌*◌, ◌/◌, ◌%◌, ◌^◌, ◌<◌, ◌≤◌, ◌==◌, ◌&&◌, ◌||◌, Bool, true, false, not, cond, nat_lt, List, [], ◌∷◌, ◌++◌, length, map, slice_index, get_or, Option, None, Some, is_none, refl, ap, ap₂, sym, subst, ◌∙◌, arith, append-nil, inl, inr, ⊎_elim, eq-eqb, eqb-true}
-use Rattle.std.specs.Char.{digit_char, is_ascii_uppercase}
+use Rattle.std.specs.Char.{digit_char, digit_value, is_ascii_uppercase}
 use Rattle.std.specs.Fmt.{decimal}
 use Rattle.std.specs.Int.{bytes_high_first}
 use Rattle.std.specs.List.{fold, join_with_byte, list_all}
-use Rattle.std.proofs.Math.Nat.{pow-suc}
-use Rattle.std.proofs.lemmas.Bool.{and_parts, cases_eq, cases_lt, false≢true, le-ltb, lt-ltb, ne_eqb}
+use Rattle.std.proofs.Math.Nat.{mul-le-mul_right, pow-le-pow_right, pow-suc}
+use Rattle.std.proofs.lemmas.Option.{cond_some}
+use Rattle.std.proofs.lemmas.Bool.{and_parts, cases_Bool, cases_eq, cases_lt, false≢true, le-ltb, lt-ltb, ne_eqb}
 use Rattle.std.proofs.lemmas.Bool.Decides.{nat_tests}
 use Rattle.std.proofs.lemmas.List.Splits.{join_with_byte-slice_split}
 use Rattle.std.proofs.lemmas.Nat.{mul-add-lt}
@@ -183,3 +184,295 @@ four_digits a b c d n h =
     let s3 = some_bind (hex_digit_in c) (f3 s1.0 s2.0) n s2.2 in
     let s4 = some_bind (hex_digit_in d) (f4 s1.0 s2.0 s3.0) n s3.2 in
     record { p = s1.0; q = s2.0; r = s3.0; s = s4.0; one = s1.1; two = s2.1; three = s3.1; four = s4.1; value = cc s4.2 }
+
+record IsHexForm (text : List ℕ) (n : ℕ) : Type 0 where
+  long : length text ≡ 6
+  zero_first : slice_index text 0 ≡ 48
+  letter : slice_index text 1 ≡ 120
+  digits : IsHex (slice_index text 2) (slice_index text 3) (slice_index text 4) (slice_index text 5) n
+
+hex_form : (text : List ℕ) (n : ℕ) → hex_in text ≡ Some n → IsHexForm text n
+unfolding hex_in
+hex_form text n h =
+    let f : List ℕ → Option ℕ = λ whole.
+    hex_digit_in (slice_index whole 2) >>= λ p. hex_digit_in (slice_index whole 3) >>= λ q. hex_digit_in (slice_index whole 4) >>= λ r. hex_digit_in (slice_index whole 5) >>= λ s.
+    Some (((p * 16 + q) * 16 + r) * 16 + s) in
+    let step = some_bind (cond (has_hex_form text) (Some text) None) f n h in
+    let last = cond_some (has_hex_form text) text step.0 step.1 in
+    let rest : f text ≡ Some n = ap f last.1 ∙ step.2 in
+    let two = and_parts (length text == 6 && slice_index text 0 == 48) (slice_index text 1 == 120) last.0 in
+    let one = and_parts (length text == 6) (slice_index text 0 == 48) two.0 in
+    record {
+      long = eqb-true (length text) 6 one.0;
+      zero_first = eqb-true (slice_index text 0) 48 one.1;
+      letter = eqb-true (slice_index text 1) 120 two.1;
+      digits = four_digits (slice_index text 2) (slice_index text 3) (slice_index text 4) (slice_index text 5) n rest;
+    }
+
+-- what one digit is
+record IsDigit (c d : ℕ) : Type 0 where
+  is : c ≡ digit_char d
+  small : d < 16
+
+one_digit : (c d : ℕ) → hex_digit_in c ≡ Some d → is_lower c ≡ true → IsDigit c d
+one_digit c d h lower = let both = digit_is c d h lower in record { is = both.0; small = both.1 }
+
+hex_digits : (p q r s : ℕ) → p < 16 → q < 16 → r < 16 → s < 16
+    → 48 ∷ 120 ∷ digit_char p ∷ digit_char q ∷ digit_char r ∷ digit_char s ∷ [] ≡ hex_text (((p * 16 + q) * 16 + r) * 16 + s)
+unfolding hex_text
+hex_digits p q r s lp lq lr ls =
+    let n : ℕ = ((p * 16 + q) * 16 + r) * 16 + s in
+    let d1 : p ≡ n / 16 / 16 / 16 = omega arith in
+    let d2 : q ≡ n / 16 / 16 % 16 = omega arith in
+    let d3 : r ≡ n / 16 % 16 = omega arith in
+    let d4 : s ≡ n % 16 = omega arith in
+    (λ i. 48 ∷ 120 ∷ digit_char (d1 i) ∷ digit_char (d2 i) ∷ digit_char (d3 i) ∷ digit_char (d4 i) ∷ [])
+
+six : (text : List ℕ) → length text ≡ 6
+    → text ≡ slice_index text 0 ∷ slice_index text 1 ∷ slice_index text 2 ∷ slice_index text 3 ∷ slice_index text 4 ∷ slice_index text 5 ∷ []
+six [] e = absurd (omega arith)
+six (t ∷ []) e = absurd (omega arith)
+six (t ∷ u ∷ []) e = absurd (omega arith)
+six (t ∷ u ∷ a ∷ []) e = absurd (omega arith)
+six (t ∷ u ∷ a ∷ b ∷ []) e = absurd (omega arith)
+six (t ∷ u ∷ a ∷ b ∷ c ∷ []) e = absurd (omega arith)
+six (t ∷ u ∷ a ∷ b ∷ c ∷ d ∷ []) e = refl
+six (t ∷ u ∷ a ∷ b ∷ c ∷ d ∷ x ∷ more) e = absurd (omega arith)
+
+lower_at : (text : List ℕ) → is_lower_case text ≡ true → (k : ℕ) → k < length text → is_lower (slice_index text k) ≡ true
+lower_at [] e k h = absurd (omega arith)
+lower_at (x ∷ xs) e zero h = (and_parts (is_lower x) (is_lower_case xs) e).0
+lower_at (x ∷ xs) e (suc k) h = lower_at xs (and_parts (is_lower x) (is_lower_case xs) e).1 k (omega arith)
+
+hex_is : (text : List ℕ) (n : ℕ) → hex_in text ≡ Some n → is_lower_case text ≡ true → text ≡ hex_text n
+hex_is text n h lower =
+    let form = hex_form text n h in
+    let it = form.digits in
+    let one = one_digit (slice_index text 2) it.p it.one (lower_at text lower 2 (omega (arith, form.long))) in
+    let two = one_digit (slice_index text 3) it.q it.two (lower_at text lower 3 (omega (arith, form.long))) in
+    let three = one_digit (slice_index text 4) it.r it.three (lower_at text lower 4 (omega (arith, form.long))) in
+    let four = one_digit (slice_index text 5) it.s it.four (lower_at text lower 5 (omega (arith, form.long))) in
+    six text form.long
+    ∙ (λ i. form.zero_first i ∷ form.letter i ∷ one.is i ∷ two.is i ∷ three.is i ∷ four.is i ∷ [])
+    ∙ hex_digits it.p it.q it.r it.s one.small two.small three.small four.small
+    ∙ ap hex_text it.value
+
+-- digits are below 16 in either case
+digit_small : (c d : ℕ) → hex_digit_in c ≡ Some d → d < 16
+digit_small c d h =
+    elim (nat_lt (digit_value c) 16) as (λ t. nat_lt (digit_value c) 16 ≡ t → cond t (Some (digit_value c)) None ≡ Some d → d < 16) [
+      | true ↦ λ t e. let same : digit_value c ≡ d = cc e in let low : digit_value c < 16 = below_from (digit_value c) t in omega (arith, same, low)
+      | false ↦ λ t e. absurd (let wrong : ⊥ = cc in wrong)
+    ] refl h where
+  below_from : (n : ℕ) → nat_lt n 16 ≡ true → n < 16
+  below_from n t = grind (arith, nat_tests, t)
+
+hex_small : (text : List ℕ) (n : ℕ) → hex_in text ≡ Some n → n < 65536
+hex_small text n h =
+    let form = hex_form text n h in
+    let it = form.digits in
+    let p = digit_small (slice_index text 2) it.p it.one in
+    let q = digit_small (slice_index text 3) it.q it.two in
+    let r = digit_small (slice_index text 4) it.r it.three in
+    let s = digit_small (slice_index text 5) it.s it.four in
+    omega (arith, it.value, p, q, r, s)
+
+-- ---- groups of IPv6 addresses
+
+-- a digit that is no 0
+digit_some : (c d : ℕ) → IsDigit c d → not (c == 48) ≡ true → 0 < d
+digit_some c zero digit lead = absurd (let z : (c == 48) ≡ true = eq-eqb c 48 digit.is in let wrong : false ≡ true = rw z at lead in false≢true wrong)
+digit_some c (suc d) digit lead = omega arith
+
+first_digit : (a : ℕ) (xs : List ℕ) → has_no_leading_zero (a ∷ xs) ≡ true → 0 < length xs → not (a == 48) ≡ true
+first_digit a [] lead some = absurd (omega arith)
+first_digit a (x ∷ xs) lead some = let long : (length (a ∷ x ∷ xs) == 1) ≡ false = ne_eqb (length (a ∷ x ∷ xs)) 1 (λ e. omega arith) in rw long at lead
+
+one_text : (p : ℕ) → p < 16 → digit_char p ∷ [] ≡ group_text p
+unfolding group_text
+one_text p lp = rw (lt-ltb p 16 lp) refl
+
+two_text : (p q : ℕ) → 0 < p → p < 16 → q < 16 → digit_char p ∷ digit_char q ∷ [] ≡ group_text (p * 16 + q)
+unfolding group_text
+two_text p q some lp lq =
+    let g : ℕ = p * 16 + q in
+    let d1 : p ≡ g / 16 = omega arith in
+    let d2 : q ≡ g % 16 = omega arith in
+    rw (le-ltb g 16 (omega arith), lt-ltb g 256 (omega arith)) (λ i. digit_char (d1 i) ∷ digit_char (d2 i) ∷ [])
+
+three_text : (p q r : ℕ) → 0 < p → p < 16 → q < 16 → r < 16 → digit_char p ∷ digit_char q ∷ digit_char r ∷ [] ≡ group_text ((p * 16 + q) * 16 + r)
+unfolding group_text
+three_text p q r some lp lq lr =
+    let g : ℕ = (p * 16 + q) * 16 + r in
+    let d1 : p ≡ g / 16 / 16 = omega arith in
+    let d2 : q ≡ g / 16 % 16 = omega arith in
+    let d3 : r ≡ g % 16 = omega arith in
+    rw (le-ltb g 16 (omega arith), le-ltb g 256 (omega arith), lt-ltb g 4096 (omega arith)) (λ i. digit_char (d1 i) ∷ digit_char (d2 i) ∷ digit_char (d3 i) ∷ [])
+
+four_text : (p q r s : ℕ) → 0 < p → p < 16 → q < 16 → r < 16 → s < 16
+    → digit_char p ∷ digit_char q ∷ digit_char r ∷ digit_char s ∷ [] ≡ group_text (((p * 16 + q) * 16 + r) * 16 + s)
+unfolding group_text
+four_text p q r s some lp lq lr ls =
+    let g : ℕ = ((p * 16 + q) * 16 + r) * 16 + s in
+    let d1 : p ≡ g / 16 / 16 / 16 = omega arith in
+    let d2 : q ≡ g / 16 / 16 % 16 = omega arith in
+    let d3 : r ≡ g / 16 % 16 = omega arith in
+    let d4 : s ≡ g % 16 = omega arith in
+    rw (le-ltb g 16 (omega arith), le-ltb g 256 (omega arith), le-ltb g 4096 (omega arith))
+    (λ i. digit_char (d1 i) ∷ digit_char (d2 i) ∷ digit_char (d3 i) ∷ digit_char (d4 i) ∷ [])
+
+-- the digits of a group, one by one
+record IsDigits (n : ℕ) (c : ℕ) (cs : List ℕ) (g : ℕ) : Type 0 where
+  d : ℕ
+  digit : hex_digit_in c ≡ Some d
+  rest : hex_after (n * 16 + d) cs ≡ Some g
+
+digit_first : (n c : ℕ) (cs : List ℕ) (g : ℕ) → hex_after n (c ∷ cs) ≡ Some g → IsDigits n c cs g
+digit_first n c cs g h =
+    let f : ℕ → Option ℕ = λ d. hex_after (n * 16 + d) cs in
+    let step = some_bind (hex_digit_in c) f g h in
+    record { d = step.0; digit = step.1; rest = step.2 }
+
+group_cases : (text : List ℕ) (g : ℕ) → group_in text ≡ Some g → (0 < length text) × (length text ≤ 4) × (hex_after 0 text ≡ Some g)
+unfolding group_in
+group_cases text g h =
+    ⊎_elim
+    (λ (e : (length text == 0 || nat_lt 4 (length text)) ≡ true). let none : None ≡ Some g = rw e at h in absurd (let wrong : ⊥ = cc in wrong))
+    (λ (e : (length text == 0 || nat_lt 4 (length text)) ≡ false).
+    let sides = or_parts (length text == 0) (nat_lt 4 (length text)) e in
+    let one : (length text == 0) ≡ false = sides.0 in
+    let two : nat_lt 4 (length text) ≡ false = sides.1 in
+    (grind (arith, nat_tests, one), grind (arith, nat_tests, two), rw e at h))
+    (cases_Bool (length text == 0 || nat_lt 4 (length text))) where
+  or_parts : (a b : Bool) → (a || b) ≡ false → (a ≡ false) × (b ≡ false)
+  or_parts true b e = absurd (false≢true (sym e))
+  or_parts false b e = (refl, e)
+
+group_digits : (text : List ℕ) (g : ℕ) → length text ≤ 4 → hex_after 0 text ≡ Some g → 0 < length text
+    → has_no_leading_zero text ≡ true → is_lower_case text ≡ true → text ≡ group_text g
+group_digits [] g few h some lead lower = absurd (omega arith)
+group_digits (a ∷ []) g few h some lead lower =
+    let one = digit_first 0 a [] g h in
+    let p = one_digit a one.d one.digit (lower_at (a ∷ []) lower 0 (omega arith)) in
+    let last : 0 * 16 + one.d ≡ g = cc one.rest in
+    let whole : one.d ≡ g = omega (arith, last) in
+    (λ i. p.is i ∷ []) ∙ one_text one.d p.small ∙ ap group_text whole
+group_digits (a ∷ b ∷ []) g few h some lead lower =
+    let one = digit_first 0 a (b ∷ []) g h in
+    let two = digit_first (0 * 16 + one.d) b [] g one.rest in
+    let p = one_digit a one.d one.digit (lower_at (a ∷ b ∷ []) lower 0 (omega arith)) in
+    let q = one_digit b two.d two.digit (lower_at (a ∷ b ∷ []) lower 1 (omega arith)) in
+    let begun = digit_some a one.d p (first_digit a (b ∷ []) lead (omega arith)) in
+    let last : (0 * 16 + one.d) * 16 + two.d ≡ g = cc two.rest in
+    let whole : one.d * 16 + two.d ≡ g = omega (arith, last) in
+    (λ i. p.is i ∷ q.is i ∷ []) ∙ two_text one.d two.d begun p.small q.small ∙ ap group_text whole
+group_digits (a ∷ b ∷ c ∷ []) g few h some lead lower =
+    let one = digit_first 0 a (b ∷ c ∷ []) g h in
+    let two = digit_first (0 * 16 + one.d) b (c ∷ []) g one.rest in
+    let three = digit_first ((0 * 16 + one.d) * 16 + two.d) c [] g two.rest in
+    let p = one_digit a one.d one.digit (lower_at (a ∷ b ∷ c ∷ []) lower 0 (omega arith)) in
+    let q = one_digit b two.d two.digit (lower_at (a ∷ b ∷ c ∷ []) lower 1 (omega arith)) in
+    let r = one_digit c three.d three.digit (lower_at (a ∷ b ∷ c ∷ []) lower 2 (omega arith)) in
+    let begun = digit_some a one.d p (first_digit a (b ∷ c ∷ []) lead (omega arith)) in
+    let last : ((0 * 16 + one.d) * 16 + two.d) * 16 + three.d ≡ g = cc three.rest in
+    let whole : (one.d * 16 + two.d) * 16 + three.d ≡ g = omega (arith, last) in
+    (λ i. p.is i ∷ q.is i ∷ r.is i ∷ []) ∙ three_text one.d two.d three.d begun p.small q.small r.small ∙ ap group_text whole
+group_digits (a ∷ b ∷ c ∷ d ∷ []) g few h some lead lower =
+    let one = digit_first 0 a (b ∷ c ∷ d ∷ []) g h in
+    let two = digit_first (0 * 16 + one.d) b (c ∷ d ∷ []) g one.rest in
+    let three = digit_first ((0 * 16 + one.d) * 16 + two.d) c (d ∷ []) g two.rest in
+    let four = digit_first (((0 * 16 + one.d) * 16 + two.d) * 16 + three.d) d [] g three.rest in
+    let p = one_digit a one.d one.digit (lower_at (a ∷ b ∷ c ∷ d ∷ []) lower 0 (omega arith)) in
+    let q = one_digit b two.d two.digit (lower_at (a ∷ b ∷ c ∷ d ∷ []) lower 1 (omega arith)) in
+    let r = one_digit c three.d three.digit (lower_at (a ∷ b ∷ c ∷ d ∷ []) lower 2 (omega arith)) in
+    let s = one_digit d four.d four.digit (lower_at (a ∷ b ∷ c ∷ d ∷ []) lower 3 (omega arith)) in
+    let begun = digit_some a one.d p (first_digit a (b ∷ c ∷ d ∷ []) lead (omega arith)) in
+    let last : (((0 * 16 + one.d) * 16 + two.d) * 16 + three.d) * 16 + four.d ≡ g = cc four.rest in
+    let whole : ((one.d * 16 + two.d) * 16 + three.d) * 16 + four.d ≡ g = omega (arith, last) in
+    (λ i. p.is i ∷ q.is i ∷ r.is i ∷ s.is i ∷ []) ∙ four_text one.d two.d three.d four.d begun p.small q.small r.small s.small ∙ ap group_text whole
+group_digits (a ∷ b ∷ c ∷ d ∷ e ∷ more) g few h some lead lower = absurd (omega arith)
+
+group_is : (text : List ℕ) (g : ℕ) → group_in text ≡ Some g → is_canonical_group text ≡ true → text ≡ group_text g
+group_is text g h canonical =
+    let both = and_parts (has_no_leading_zero text) (is_lower_case text) canonical in
+    let cases = group_cases text g h in
+    group_digits text g cases.1 cases.2 cases.0 both.0 both.1
+
+after_small : (n : ℕ) (text : List ℕ) (g : ℕ) → hex_after n text ≡ Some g → g < (n + 1) * 16 ^ length text
+after_small n [] g h = let same : n ≡ g = cc h in omega (arith, same)
+after_small n (c ∷ cs) g h =
+    let one = digit_first n c cs g h in
+    let small = digit_small c one.d one.digit in
+    let rest = after_small (n * 16 + one.d) cs g one.rest in
+    let more : (n * 16 + one.d + 1) * 16 ^ length cs ≤ (n + 1) * 16 * 16 ^ length cs = mul-le-mul_right (16 ^ length cs) (omega (arith, small)) in
+    rw (pow-suc 16 (length cs)) (omega (arith, rest, more))
+
+group_small : (text : List ℕ) (g : ℕ) → group_in text ≡ Some g → g < 65536
+group_small text g h =
+    let cases = group_cases text g h in
+    let small = after_small 0 text g cases.2 in
+    let most : 16 ^ length text ≤ 16 ^ 4 = pow-le-pow_right {n = 16} (omega arith) {i = length text} {j = 4} cases.1 in
+    omega (arith, small, most)
+
+groups_small : (texts : List (List ℕ)) (gs : List ℕ) → AreGroups texts gs → AreSmall gs
+groups_small [] [] h = tt
+groups_small [] (g ∷ gs) h = absurd h
+groups_small (text ∷ texts) [] h = absurd h
+groups_small (text ∷ texts) (g ∷ gs) h = (group_small text g h.0, groups_small texts gs h.1)
+
+groups_are : (texts : List (List ℕ)) (gs : List ℕ) → AreGroups texts gs → list_all is_canonical_group texts ≡ true → texts ≡ map group_text gs
+groups_are [] [] h canonical = refl
+groups_are [] (g ∷ gs) h canonical = absurd h
+groups_are (text ∷ texts) [] h canonical = absurd h
+groups_are (text ∷ texts) (g ∷ gs) h canonical =
+    let both = and_parts (is_canonical_group text) (list_all is_canonical_group texts) canonical in
+    λ i. group_is text g h.0 both.0 i ∷ groups_are texts gs h.1 both.1 i
+
+-- groups are those of their number
+back_from : (m : ℕ) (gs behind : List ℕ) (k : ℕ) → AreSmall gs
+    → groups_before (k + length gs) (fold (λ n group. n * 65536 + group) m gs) behind ≡ groups_before k m (gs ++ behind)
+unfolding groups_before
+back_from m [] behind k small = let e : k + 0 ≡ k = omega arith in rw e refl
+back_from m (g ∷ gs) behind k small =
+    let e : k + length (g ∷ gs) ≡ suc k + length gs = omega arith in
+    let front : (m * 65536 + g) / 65536 ≡ m = omega (arith, small.0) in
+    let last : (m * 65536 + g) % 65536 ≡ g = omega (arith, small.0) in
+    rw e (back_from (m * 65536 + g) gs behind (suc k) small.1 ∙ (λ i. groups_before k (front i) (last i ∷ (gs ++ behind))))
+
+groups_back : (gs : List ℕ) → AreSmall gs → length gs ≡ 8 → groups_before 8 (groups_value gs) [] ≡ gs
+unfolding groups_before
+groups_back gs small long = let e : 0 + length gs ≡ 8 = omega (arith, long) in subst (λ n. groups_before n (groups_value gs) [] ≡ gs ++ []) e (back_from 0 gs [] 0 small) ∙ append-nil gs
+
+value_from : (m : ℕ) (gs : List ℕ) → AreSmall gs → fold (λ n group. n * 65536 + group) m gs < (m + 1) * 65536 ^ length gs
+value_from m [] small = omega arith
+value_from m (g ∷ gs) small =
+    let rest = value_from (m * 65536 + g) gs small.1 in
+    let more : (m * 65536 + g + 1) * 65536 ^ length gs ≤ (m + 1) * 65536 * 65536 ^ length gs = mul-le-mul_right (65536 ^ length gs) (omega (arith, small.0)) in
+    rw (pow-suc 65536 (length gs)) (omega (arith, rest, more))
+
+-- what an address that is read is
+record IsIpv6 (text : List ℕ) (n : ℕ) : Type 0 where
+  groups : List ℕ
+  eight : eight_groups_in text ≡ Some groups
+  value : groups_value groups ≡ n
+
+ipv6_parts : (text : List ℕ) (n : ℕ) → ipv6_in text ≡ Some n → IsIpv6 text n
+unfolding ipv6_in
+ipv6_parts text n h =
+    let f : List ℕ → Option ℕ = λ groups. Some (groups_value groups) in
+    let step = some_bind (eight_groups_in text) f n h in
+    record { groups = step.0; eight = step.1; value = cc step.2 }
+
+ipv6_is : (text : List ℕ) (n : ℕ) → ipv6_in text ≡ Some n → (list_all is_canonical_group (parts 58 text) && is_none (double_from 0 text)) ≡ true → text ≡ ipv6_text n
+unfolding eight_groups_in ipv6_text
+ipv6_is text n h canonical =
+    let is = ipv6_parts text n h in
+    let both = and_parts (list_all is_canonical_group (parts 58 text)) (is_none (double_from 0 text)) canonical in
+    let full : full_in text ≡ Some is.groups = no_place (double_from 0 text) both.1 is.groups is.eight in
+    let read = full_parts text is.groups full in
+    let small = groups_small (parts 58 text) is.groups read.0 in
+    let same : groups_before 8 n [] ≡ is.groups = ap (λ m. groups_before 8 m []) (sym is.value) ∙ groups_back is.groups small read.1 in
+    sym (join_with_byte-slice_split 58 text) ∙ ap (join_with_byte 58) (groups_are (parts 58 text) is.groups read.0 both.0 ∙ ap (map group_text) (sym same)) where
+  no_place : (o : Option ℕ) → is_none o ≡ true → (gs : List ℕ) → eight_groups_at text o ≡ Some gs → full_in text ≡ Some gs
+  no_place None e gs h = h
+  no_place (Some at) e gs h = absurd (false≢true e)
