@@ -86,7 +86,7 @@ ipv6_again n h = read_again (groups_before 8 n []) (small_back 8 n [] tt) (count
 
 -- ---- with which bytes it is printed
 
-group_all : (q : ℕ → Bool) → ((d : ℕ) → d < 16 → q (digit_char d) ≡ true) → (g : ℕ) → g < 65536 → list_all q (group_text g) ≡ true
+pub group_all : (q : ℕ → Bool) → ((d : ℕ) → d < 16 → q (digit_char d) ≡ true) → (g : ℕ) → g < 65536 → list_all q (group_text g) ≡ true
 unfolding group_text
 group_all q each g h =
     elim (cases_lt g 16) [

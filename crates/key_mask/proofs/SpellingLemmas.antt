@@ -1,5 +1,5 @@
 -- Values in their canonical spellings are what is printed of them.
-use Rattle.std.proofs.Common.{◌≡◌, ◌≢◌, ℕ, zero, suc, ◌+◌, ◌*◌, ◌/◌, ◌%◌, ◌^◌, ◌<◌, ◌≤◌, ◌==◌, ◌&&◌, ◌||◌, Bool, true, false, not, cond, nat_lt, List, [], ◌∷◌, ◌++◌, length, map, slice_index, get_or, Option, None, Some, is_none, refl, ap, ap₂, sym, subst, ◌∙◌, arith, append-nil, inl, inr, ⊎_elim, eq-eqb, eqb-true}
+use Rattle.std.proofs.Common.{◌≡◌, ◌≢◌, ℕ, zero, suc, ◌+◌, ◌*◌, ◌/◌, ◌%◌, ◌^◌, ◌<◌, ◌≤◌, ◌==◌, ◌&&◌, ◌||◌, Bool, true, false, not, cond, nat_lt, List, [], ◌∷◌, ◌++◌, length, map, slice_index, get_or, Option, None, Some, is_none, refl, ap, ap₂, sym, subst, ◌∙◌, arith, append-nil, replicate, length-append, inl, inr, ◌-◌, ◌⊎◌, ⊎_elim, eq-eqb, eqb-true}
 use Rattle.std.specs.Char.{digit_char, digit_value, is_ascii_uppercase}
 use Rattle.std.specs.Fmt.{decimal}
 use Rattle.std.specs.Int.{bytes_high_first}
@@ -9,20 +9,20 @@ use Rattle.std.proofs.lemmas.Option.{cond_some}
 use Rattle.std.proofs.lemmas.Bool.{and_parts, cases_Bool, cases_eq, cases_lt, false≢true, le-ltb, lt-ltb, ne_eqb}
 use Rattle.std.proofs.lemmas.Bool.Decides.{nat_tests}
 use Rattle.std.proofs.lemmas.List.Splits.{join_with_byte-slice_split}
-use Rattle.std.proofs.lemmas.Nat.{mul-add-lt}
+use Rattle.std.proofs.lemmas.List.{length-replicate}
 use Rattle.texts.specs.Cuts.{front, back, parts}
 use Rattle.texts.proofs.CutLemmas.{parts_behind, parts_first, split_last, split_more}
 use Rattle.key_mask.specs.declared.fields.Field.{Field}
 use Rattle.key_mask.specs.declared.fields.Field.TheVariants.{SrcIp, DstIp, SrcPort, DstPort, Proto, Tos, EtherType, SrcIp6, DstIp6}
 use Rattle.key_mask.specs.Fields.{width_of}
 use Rattle.key_mask.specs.Ipv6.{double_from, eight_groups_at, eight_groups_in, full_in, group_in, group_text, groups_before, groups_value, hex_after, ipv6_in, ipv6_text}
-use Rattle.key_mask.specs.Ipv6Grammar.{AreGroups}
+use Rattle.key_mask.specs.Ipv6Grammar.{AreGroups, IsFull, IsShort}
 use Rattle.key_mask.specs.Numbers.{◌>>=◌, address_in, has_hex_form, hex_digit_in, hex_in, is_dot, number_in}
 use Rattle.key_mask.specs.Spellings.{address_text, has_no_leading_zero, hex_text, is_canonical_group, is_canonical_value, is_lower_case, value_in, value_text}
-use Rattle.key_mask.proofs.Ipv6AgainLemmas.{AreSmall, count_back, small_back, texts_are}
-use Rattle.key_mask.proofs.Ipv6GrammarLemmas.{full_parts, no_double, parts_of_join, pieces, some_bind}
-use Rattle.key_mask.proofs.NumberLemmas.{decimal_lead, decimal_pass, digit_is, digit_pass, digits_pass, number_read, number_text}
-use Rattle.key_mask.proofs.ValueLemmas.{value_pass}
+use Rattle.key_mask.proofs.Ipv6AgainLemmas.{AreSmall, count_back, group_all, small_back, texts_are}
+use Rattle.key_mask.proofs.Ipv6GrammarLemmas.{full_parts, no_double, no_others_are_read, parts_of_join, pieces, some_bind}
+use Rattle.key_mask.proofs.NumberLemmas.{decimal_lead, decimal_pass, digit_is, digit_pass, digits_pass, each_below, number_read, number_text}
+use Rattle.key_mask.proofs.ValueLemmas.{PassesAll, value_pass}
 use Rattle.key_mask.proofs.VectorLemmas.{AreBytes, bytes_back}
 
 -- ---- IPv4 addresses
@@ -476,3 +476,119 @@ ipv6_is text n h canonical =
   no_place : (o : Option ℕ) → is_none o ≡ true → (gs : List ℕ) → eight_groups_at text o ≡ Some gs → full_in text ≡ Some gs
   no_place None e gs h = h
   no_place (Some at) e gs h = absurd (false≢true e)
+
+append_small : (xs ys : List ℕ) → AreSmall xs → AreSmall ys → AreSmall (xs ++ ys)
+append_small [] ys p q = q
+append_small (x ∷ xs) ys p q = (p.0, append_small xs ys p.1 q)
+
+zeros_small : (n : ℕ) → AreSmall (replicate {A = ℕ} n 0)
+zeros_small zero = tt
+zeros_small (suc n) = (omega arith, zeros_small n)
+
+groups_read : (text gs : List ℕ) → eight_groups_in text ≡ Some gs → AreSmall gs × (length gs ≡ 8)
+groups_read text gs h = cases (no_others_are_read text gs h) where
+  cases : IsFull text gs ⊎ IsShort text gs → AreSmall gs × (length gs ≡ 8)
+  cases (inl full) = (groups_small full.texts gs full.each, full.eight)
+  cases (inr short) =
+      let nil : ℕ = 0 in
+      let zeros : List ℕ = replicate (8 - length short.left - length short.right) nil in
+      let all : AreSmall (short.left ++ (zeros ++ short.right)) =
+      append_small short.left (zeros ++ short.right) (groups_small short.before short.left short.each_left)
+      (append_small zeros short.right (zeros_small (8 - length short.left - length short.right)) (groups_small short.behind short.right short.each_right)) in
+      (subst AreSmall (sym short.groups_are) all , ap length short.groups_are
+      ∙ omega (arith, short.few, length-append short.left (zeros ++ short.right), length-append zeros short.right, length-replicate {A = ℕ} (8 - length short.left - length short.right) nil))
+
+ipv6_small : (text : List ℕ) (n : ℕ) → ipv6_in text ≡ Some n → n < 2 ^ 128
+ipv6_small text n h =
+    let is = ipv6_parts text n h in
+    let read = groups_read text is.groups is.eight in
+    let small = value_from 0 is.groups read.0 in
+    let count : 65536 ^ length is.groups ≡ 2 ^ 128 = ap (λ k. 65536 ^ k) read.1 in
+    omega (arith, is.value, small, count)
+
+-- ---- what is printed is in its canonical spelling
+
+first_big : (d : ℕ) (xs : List ℕ) → 0 < d → d < 16 → has_no_leading_zero (digit_char d ∷ xs) ≡ true
+first_big d xs some small =
+    let other : not (digit_char d == 48) ≡ true = both_below d some (each_below (λ k. k == 0 || not (digit_char k == 48)) 16 refl d small) in
+    rw_or (length (digit_char d ∷ xs) == 1) (not (digit_char d == 48)) other where
+  rw_or : (a b : Bool) → b ≡ true → (a || b) ≡ true
+  rw_or true b e = refl
+  rw_or false b e = e
+
+  both_below : (d : ℕ) → 0 < d → (d == 0 || not (digit_char d == 48)) ≡ true → not (digit_char d == 48) ≡ true
+  both_below d some e = let ne : (d == 0) ≡ false = ne_eqb d 0 (λ z. omega (arith, z, some)) in rw ne at e
+
+group_lead : (g : ℕ) → g < 65536 → has_no_leading_zero (group_text g) ≡ true
+unfolding group_text
+group_lead g h =
+    elim (cases_lt g 16) [
+      | inl one ↦ rw (lt-ltb g 16 one) refl
+      | inr ten ↦ elim (cases_lt g 256) [
+        | inl two ↦ rw (le-ltb g 16 ten, lt-ltb g 256 two) (first_big (g / 16) (digit_char (g % 16) ∷ []) (omega arith) (omega arith))
+        | inr hundred ↦ elim (cases_lt g 4096) [
+          | inl three ↦ rw (le-ltb g 16 ten, le-ltb g 256 hundred, lt-ltb g 4096 three)
+              (first_big (g / 16 / 16) (digit_char (g / 16 % 16) ∷ digit_char (g % 16) ∷ []) (omega arith) (omega arith))
+          | inr thousand ↦ rw (le-ltb g 16 ten, le-ltb g 256 hundred, le-ltb g 4096 thousand)
+              (first_big (g / 16 / 16 / 16) (digit_char (g / 16 / 16 % 16) ∷ digit_char (g / 16 % 16) ∷ digit_char (g % 16) ∷ []) (omega arith) (omega arith))
+        ]
+      ]
+    ]
+
+group_lower : (g : ℕ) → g < 65536 → is_lower_case (group_text g) ≡ true
+group_lower g h = group_all is_lower (digit_pass is_lower refl) g h
+
+groups_canonical : (gs : List ℕ) → AreSmall gs → list_all is_canonical_group (map group_text gs) ≡ true
+groups_canonical [] small = refl
+groups_canonical (g ∷ gs) small = rw (group_lead g small.0, group_lower g small.0, groups_canonical gs small.1) refl
+
+joined_canonical : (gs : List ℕ) → AreSmall gs → 0 < length gs
+    → (list_all is_canonical_group (parts 58 (join_with_byte 58 (map group_text gs))) && is_none (double_from 0 (join_with_byte 58 (map group_text gs)))) ≡ true
+joined_canonical [] small some = absurd (omega arith)
+joined_canonical (g ∷ gs) small some =
+    let all = pieces (map group_text (g ∷ gs)) (g ∷ gs) (texts_are (g ∷ gs) small) in
+    rw (parts_of_join (group_text g) (map group_text gs) all, groups_canonical (g ∷ gs) small, no_double (group_text g) (map group_text gs) all) refl
+
+ipv6_canonical : (n : ℕ) → (list_all is_canonical_group (parts 58 (ipv6_text n)) && is_none (double_from 0 (ipv6_text n))) ≡ true
+unfolding ipv6_text
+ipv6_canonical n = joined_canonical (groups_before 8 n []) (small_back 8 n [] tt) (omega (arith, count_back 8 n []))
+
+lower_value : PassesAll is_lower
+lower_value = record { decimals = λ c low high. lower_low c high; digits = digit_pass is_lower refl; dot = refl; colon = refl; letter = refl } where
+  lower_low : (c : ℕ) → c ≤ 57 → is_lower c ≡ true
+  lower_low c h = each_below is_lower 58 refl c (omega arith)
+
+pub value_canonical : (field : Field) (n : ℕ) → n < 2 ^ width_of field → is_canonical_value field (value_text field n) ≡ true
+value_canonical SrcIp n small = address_canonical n
+value_canonical DstIp n small = address_canonical n
+value_canonical SrcPort n small = decimal_lead n (omega arith)
+value_canonical DstPort n small = decimal_lead n (omega arith)
+value_canonical Proto n small = decimal_lead n (omega arith)
+value_canonical Tos n small = decimal_lead n (omega arith)
+value_canonical EtherType n small = value_pass is_lower lower_value EtherType n small
+value_canonical SrcIp6 n small = ipv6_canonical n
+value_canonical DstIp6 n small = ipv6_canonical n
+
+-- ---- the values of fields
+
+pub value_is : (field : Field) (text : List ℕ) (n : ℕ) → value_in field text ≡ Some n → is_canonical_value field text ≡ true → text ≡ value_text field n
+value_is SrcIp text n h canonical = address_is text n h canonical
+value_is DstIp text n h canonical = address_is text n h canonical
+value_is SrcPort text n h canonical = number_text 5 65535 n text (omega arith) h canonical
+value_is DstPort text n h canonical = number_text 5 65535 n text (omega arith) h canonical
+value_is Proto text n h canonical = number_text 3 255 n text (omega arith) h canonical
+value_is Tos text n h canonical = number_text 3 255 n text (omega arith) h canonical
+value_is EtherType text n h canonical = hex_is text n h canonical
+value_is SrcIp6 text n h canonical = ipv6_is text n h canonical
+value_is DstIp6 text n h canonical = ipv6_is text n h canonical
+
+pub value_small : (field : Field) (text : List ℕ) (n : ℕ) → value_in field text ≡ Some n → n < 2 ^ width_of field
+value_small SrcIp text n h = address_small text n h
+value_small DstIp text n h = address_small text n h
+value_small SrcPort text n h = let read = number_read 5 65535 n text h in omega (arith, read.within)
+value_small DstPort text n h = let read = number_read 5 65535 n text h in omega (arith, read.within)
+value_small Proto text n h = let read = number_read 3 255 n text h in omega (arith, read.within)
+value_small Tos text n h = let read = number_read 3 255 n text h in omega (arith, read.within)
+value_small EtherType text n h = let small = hex_small text n h in omega (arith, small)
+value_small SrcIp6 text n h = ipv6_small text n h
+value_small DstIp6 text n h = ipv6_small text n h
