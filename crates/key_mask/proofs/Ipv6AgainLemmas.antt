@@ -48,7 +48,7 @@ group_again g h =
       ]
     ]
 
-texts_are : (gs : List ℕ) → AreSmall gs → AreGroups (map group_text gs) gs
+pub texts_are : (gs : List ℕ) → AreSmall gs → AreGroups (map group_text gs) gs
 texts_are [] small = tt
 texts_are (g ∷ gs) small = (group_again g small.0, texts_are gs small.1)
 
@@ -86,7 +86,7 @@ ipv6_again n h = read_again (groups_before 8 n []) (small_back 8 n [] tt) (count
 
 -- ---- with which bytes it is printed
 
-group_all : (q : ℕ → Bool) → ((d : ℕ) → d < 16 → q (digit_char d) ≡ true) → (g : ℕ) → g < 65536 → list_all q (group_text g) ≡ true
+pub group_all : (q : ℕ → Bool) → ((d : ℕ) → d < 16 → q (digit_char d) ≡ true) → (g : ℕ) → g < 65536 → list_all q (group_text g) ≡ true
 unfolding group_text
 group_all q each g h =
     elim (cases_lt g 16) [

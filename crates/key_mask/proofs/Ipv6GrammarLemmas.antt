@@ -9,7 +9,8 @@ use Rattle.texts.specs.Cuts.{parts}
 use Rattle.texts.proofs.CutLemmas.{free_of, split_last, split_more}
 use Rattle.key_mask.specs.Numbers.{◌>>=◌, hex_digit_in}
 use Rattle.key_mask.specs.Ipv6.{hex_after, group_in, groups_in, side_in, double_from, full_in, sides_in, eight_groups_at, eight_groups_in}
-use Rattle.key_mask.specs.Ipv6Grammar.{AreGroups, IsFull, IsShort, AllAreRead, NoOthersAreRead}
+use Rattle.key_mask.specs.Ipv6Grammar.{AreGroups, IsFull, IsShort}
+use Rattle.key_mask.specs.Laws.{AddressesAreRead, NoOthersAreRead}
 
 abbrev is_colon : ℕ → Bool
 is_colon b = b == 58
@@ -18,7 +19,7 @@ abbrev bind : {A B : Type 0} → Option A → (A → Option B) → Option B
 bind o f = o >>= f
 
 -- what a step that gave a value began with
-some_bind : {A B : Type 0} (o : Option A) (f : A → Option B) (y : B) → (o >>= f) ≡ Some y → (x : A) × (o ≡ Some x) × (f x ≡ Some y)
+pub some_bind : {A B : Type 0} (o : Option A) (f : A → Option B) (y : B) → (o >>= f) ≡ Some y → (x : A) × (o ≡ Some x) × (f x ≡ Some y)
 some_bind (Some x) f y h = (x, refl, h)
 some_bind None f y h = let wrong : ⊥ = cc in absurd wrong
 
@@ -38,9 +39,9 @@ hex_free n g (c ∷ cs) h =
     let step = some_bind (hex_digit_in c) f g h in
     rw (no_digit c step.0 step.1) (hex_free (n * 16 + step.0) g cs step.2)
 
-record IsPiece (text : List ℕ) : Type 0 where
-  some : 0 < length text
-  free : free_of is_colon text ≡ true
+pub record IsPiece (text : List ℕ) : Type 0 where
+  pub some : 0 < length text
+  pub free : free_of is_colon text ≡ true
 
 piece : (text : List ℕ) (g : ℕ) → group_in text ≡ Some g → IsPiece text
 unfolding group_in
@@ -55,11 +56,11 @@ piece (c ∷ cs) g h =
       ] (rw some at h);
     }
 
-abbrev ArePieces : List (List ℕ) → Type 0
+abbrev pub ArePieces : List (List ℕ) → Type 0
 ArePieces [] = Unit {0}
 ArePieces (x ∷ xs) = IsPiece x × ArePieces xs
 
-pieces : (texts : List (List ℕ)) (groups : List ℕ) → AreGroups texts groups → ArePieces texts
+pub pieces : (texts : List (List ℕ)) (groups : List ℕ) → AreGroups texts groups → ArePieces texts
 pieces [] groups h = tt
 pieces (text ∷ texts) [] h = absurd h
 pieces (text ∷ texts) (group ∷ groups) h = (piece text group h.0, pieces texts groups h.1)
@@ -97,7 +98,7 @@ read_are_groups (suc n) (text ∷ texts) groups h =
 
 -- ---- pieces with separators between
 
-parts_of_join : (x : List ℕ) (xs : List (List ℕ)) → ArePieces (x ∷ xs) → parts 58 (join_with_byte 58 (x ∷ xs)) ≡ x ∷ xs
+pub parts_of_join : (x : List ℕ) (xs : List (List ℕ)) → ArePieces (x ∷ xs) → parts 58 (join_with_byte 58 (x ∷ xs)) ≡ x ∷ xs
 parts_of_join x [] h = split_last is_colon x (h.0).free
 parts_of_join x (y ∷ xs) h = split_more is_colon x 58 (join_with_byte 58 (y ∷ xs)) (h.0).free refl ∙ ap (λ rest. x ∷ rest) (parts_of_join y xs h.1)
 
@@ -136,7 +137,7 @@ double_of_sides : (before : List (List ℕ)) (rest : List ℕ) → ArePieces bef
 double_of_sides [] rest h = refl
 double_of_sides (x ∷ xs) rest h = all_passed 0 x xs (58 ∷ 58 ∷ rest) h ∙ ap Some (omega arith)
 
-no_double : (x : List ℕ) (xs : List (List ℕ)) → ArePieces (x ∷ xs) → double_from 0 (join_with_byte 58 (x ∷ xs)) ≡ None
+pub no_double : (x : List ℕ) (xs : List (List ℕ)) → ArePieces (x ∷ xs) → double_from 0 (join_with_byte 58 (x ∷ xs)) ≡ None
 no_double x xs h = rw (← append-nil (join_with_byte 58 (x ∷ xs))) (all_passed 0 x xs [] h)
 
 join_some : (x : List ℕ) (xs : List (List ℕ)) → IsPiece x → 0 < length (join_with_byte 58 (x ∷ xs))
@@ -181,7 +182,7 @@ short_texts text groups h =
       h.groups_are,
     ) refl
 
-pub all_are_read : AllAreRead
+pub all_are_read : AddressesAreRead
 all_are_read text groups (inl full) = rw full.text_is (full_texts full.texts groups full.each full.eight)
 all_are_read text groups (inr short) = short_texts text groups short
 
@@ -227,15 +228,21 @@ double_found k at (b ∷ bs) h =
           record { place = suc place; place_is = omega (arith, more.place_is); text_is = rw next (ap (λ t. b ∷ t) more.text_is) }
     ] refl h
 
-full_in_grammar : (text groups : List ℕ) → full_in text ≡ Some groups → IsFull text groups
+-- the parts of a text that is read without `::` are its groups
+pub full_parts : (text groups : List ℕ) → full_in text ≡ Some groups → AreGroups (parts 58 text) groups × (length groups ≡ 8)
 unfolding full_in
-full_in_grammar text groups h =
+full_parts text groups h =
     let f : List ℕ → Option (List ℕ) = λ found. if length found == 8 then Some found else None in
     let step = some_bind (groups_in 8 (parts 58 text)) f groups h in
     let found : List ℕ = step.0 in
     let last = cond_some (length found == 8) found groups step.2 in
     let read = read_are_groups 8 (parts 58 text) found step.1 in
-    subst (λ (gs : List ℕ). IsFull text gs) last.1 (record { texts = parts 58 text; each = read.each; eight = eqb-true (length found) 8 last.0; text_is = sym (join_with_byte-slice_split 58 text) })
+    subst (λ (gs : List ℕ). AreGroups (parts 58 text) gs × (length gs ≡ 8)) last.1 (read.each, eqb-true (length found) 8 last.0)
+
+full_in_grammar : (text groups : List ℕ) → full_in text ≡ Some groups → IsFull text groups
+full_in_grammar text groups h =
+    let read = full_parts text groups h in
+    record { texts = parts 58 text; each = read.0; eight = read.1; text_is = sym (join_with_byte-slice_split 58 text) }
 
 sides_in_grammar : (text before behind groups : List ℕ) → text ≡ before ++ (58 ∷ 58 ∷ behind) → sides_in before behind ≡ Some groups → IsShort text groups
 unfolding sides_in

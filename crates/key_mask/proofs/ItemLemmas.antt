@@ -1,12 +1,14 @@
 -- Items with commas between: how they are read one by one.
-use Rattle.std.proofs.Common.{◌≡◌, ◌≢◌, ℕ, zero, suc, ◌+◌, ◌<◌, ◌≤◌, ◌==◌, Bool, true, false, cond, List, [], ◌∷◌, ◌++◌, length, slice_index, Option, None, Some, Result, Ok, Err, refl, ap, sym, ◌∙◌, arith, ⊎_elim, eq-eqb}
+use Rattle.std.proofs.Common.{◌≡◌, ◌≢◌, ℕ, zero, suc, ◌+◌, ◌<◌, ◌≤◌, ◌==◌, Bool, true, false, cond, List, [], ◌∷◌, ◌++◌, length, slice_index, Option, None, Some, ok_or, Result, Ok, Err, refl, ap, sym, ◌∙◌, arith, ⊎_elim, eq-eqb}
 use Rattle.std.proofs.lemmas.Bool.{cases_eq, ne_eqb}
 use Rattle.texts.specs.Cuts.{front, back, parts}
 use Rattle.texts.proofs.CutLemmas.{parts_first, parts_behind}
 use Rattle.key_mask.specs.declared.fields.Field.{Field}
 use Rattle.key_mask.specs.declared.items.FieldKind.{FieldKind}
 use Rattle.key_mask.specs.Fields.{field_number}
-use Rattle.key_mask.specs.Items.{with_items, item_text, item_texts}
+use Rattle.key_mask.specs.declared.items.FieldKind.TheVariants.{RepeatedField}
+use Rattle.key_mask.specs.declared.items.FieldFault.{FieldFault}
+use Rattle.key_mask.specs.Items.{◌>>=◌, at_place, fresh_field, with_items, item_text, item_texts}
 
 -- one item more
 pub item_read : {A : Type 0} (add : A → List ℕ → Result A FieldKind) (place : ℕ) (found : A) (text item : List ℕ) (rest : Option (List ℕ)) (next : A)
@@ -48,3 +50,26 @@ items_again add values lengths state k (field ∷ fields) steps place =
     let t : (n == 0) ≡ false = ne_eqb n 0 ne in
     rw (t, steps.0.present ne, count) (items_again add values lengths state (suc k) fields steps.1 (place + (length (item_text values field n) + 1))))
     (cases_eq n 0)
+
+-- ---- steps that gave a value
+
+pub ok_bind : {A B E : Type 0} (o : Option A) (e : E) (f : A → Result B E) (y : B) → (ok_or o e >>= f) ≡ Ok y → (x : A) × (o ≡ Some x) × (f x ≡ Ok y)
+ok_bind None e f y h = absurd (let wrong : ⊥ = cc in wrong)
+ok_bind (Some x) e f y h = (x, refl, h)
+
+pub fresh_bind : {B : Type 0} (lengths : List ℕ) (field : Field) (f : Field → Result B FieldKind) (y : B) → (fresh_field lengths field >>= f) ≡ Ok y
+    → (slice_index lengths (field_number field) ≡ 0) × (f field ≡ Ok y)
+fresh_bind lengths field f y h =
+    ⊎_elim
+    (λ (e : slice_index lengths (field_number field) ≡ 0).
+    let t : (slice_index lengths (field_number field) == 0) ≡ true = eq-eqb (slice_index lengths (field_number field)) 0 e in (e, rw t at h))
+    (λ (ne : slice_index lengths (field_number field) ≢ 0).
+    let t : (slice_index lengths (field_number field) == 0) ≡ false = ne_eqb (slice_index lengths (field_number field)) 0 ne in
+    let wrong : (Err RepeatedField >>= f) ≡ Ok y = rw t at h in
+    absurd (let bad : ⊥ = cc in bad))
+    (cases_eq (slice_index lengths (field_number field)) 0)
+
+pub place_bind : {A B : Type 0} (place : ℕ) (r : Result A FieldKind) (f : A → Result B FieldFault) (y : B) → (at_place place r >>= f) ≡ Ok y
+    → (x : A) × (r ≡ Ok x) × (f x ≡ Ok y)
+place_bind place (Ok x) f y h = (x, refl, h)
+place_bind place (Err e) f y h = absurd (let wrong : ⊥ = cc in wrong)

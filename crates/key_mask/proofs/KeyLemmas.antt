@@ -4,7 +4,8 @@ use Rattle.std.specs.Fmt.{decimal}
 use Rattle.std.specs.List.{join_with_byte, list_all}
 use Rattle.std.proofs.lemmas.Bool.{cases_eq, false≢true, ne_eqb}
 use Rattle.std.proofs.lemmas.Bool.Decides.{nat_tests}
-use Rattle.std.proofs.lemmas.List.{take_more, take_all, length-take-le, get_or-set_same, length-set}
+use Rattle.std.proofs.lemmas.List.{take_more, take_all, length-take-le, get_or-set_other, get_or-set_same, length-set}
+use Rattle.std.proofs.lemmas.List.Splits.{join_with_byte-slice_split}
 use Rattle.texts.specs.Cuts.{front, back, parts}
 use Rattle.key_mask.specs.declared.fields.Field.{Field}
 use Rattle.key_mask.specs.declared.fields.Field.TheVariants.{SrcIp, DstIp, SrcPort, DstPort, Proto, Tos, EtherType, SrcIp6, DstIp6}
@@ -13,14 +14,16 @@ use Rattle.key_mask.specs.declared.items.FieldKind.TheVariants.{UnknownField, Re
 use Rattle.key_mask.specs.declared.items.FieldFault.{FieldFault}
 use Rattle.key_mask.specs.Fields.{fields, field_number, width_of, is_length, name_of}
 use Rattle.key_mask.specs.Masks.{AreLengths, no_lengths}
-use Rattle.key_mask.specs.Items.{◌>>=◌, at_place, field_named, fresh_field, is_slash, item_text, item_texts, items_text, prefix_in, prefix_text, with_items}
-use Rattle.key_mask.specs.Keys.{key_in, key_text, with_item}
-use Rattle.key_mask.proofs.ItemLemmas.{AreSteps, IsStep, items_again}
+use Rattle.key_mask.specs.Items.{◌>>=◌, at_place, field_named, fresh_field, is_slash, item_text, item_texts, items_text, is_canonical_prefix, prefix_in, prefix_text, with_items}
+use Rattle.key_mask.specs.Keys.{is_canonical_key, is_key_item, key_in, key_text, with_item}
+use Rattle.key_mask.specs.Laws.{KeyAgain, OnlyKey}
+use Rattle.key_mask.proofs.OrderLemmas.{IsAdded, IsSpelled, item_at, items_at, named_is, only_items, printed_in_order}
+use Rattle.key_mask.proofs.ItemLemmas.{AreSteps, IsStep, fresh_bind, items_again, ok_bind, place_bind}
 use Rattle.texts.proofs.CutLemmas.{parts_first, parts_behind}
 use Rattle.key_mask.proofs.MaskLemmas.{none_stands}
 use Rattle.key_mask.proofs.PartLemmas.{number_below}
-use Rattle.key_mask.proofs.PrefixLemmas.{length_within, each_row, prefix_again, prefix_pass, prefix_some}
-use Rattle.key_mask.proofs.PrintLemmas.{cut_slash, is_plain, items_plain, name_found, name_plain, name_slashless, parts_joined}
+use Rattle.key_mask.proofs.PrefixLemmas.{length_within, each_row, prefix_again, prefix_canonical, prefix_is, prefix_pass, prefix_some}
+use Rattle.key_mask.proofs.PrintLemmas.{cut_slash, item_joined, is_plain, items_plain, name_found, name_plain, name_slashless, parts_joined}
 
 -- ---- an item is read as what it was printed of
 
@@ -122,27 +125,6 @@ key_plain lengths known field some =
 
 -- ---- what an item that was read says
 
-pub ok_bind : {A B E : Type 0} (o : Option A) (e : E) (f : A → Result B E) (y : B) → (ok_or o e >>= f) ≡ Ok y → (x : A) × (o ≡ Some x) × (f x ≡ Ok y)
-ok_bind None e f y h = absurd (let wrong : ⊥ = cc in wrong)
-ok_bind (Some x) e f y h = (x, refl, h)
-
-pub fresh_bind : {B : Type 0} (lengths : List ℕ) (field : Field) (f : Field → Result B FieldKind) (y : B) → (fresh_field lengths field >>= f) ≡ Ok y
-    → (slice_index lengths (field_number field) ≡ 0) × (f field ≡ Ok y)
-fresh_bind lengths field f y h =
-    ⊎_elim
-    (λ (e : slice_index lengths (field_number field) ≡ 0).
-    let t : (slice_index lengths (field_number field) == 0) ≡ true = eq-eqb (slice_index lengths (field_number field)) 0 e in (e, rw t at h))
-    (λ (ne : slice_index lengths (field_number field) ≢ 0).
-    let t : (slice_index lengths (field_number field) == 0) ≡ false = ne_eqb (slice_index lengths (field_number field)) 0 ne in
-    let wrong : (Err RepeatedField >>= f) ≡ Ok y = rw t at h in
-    absurd (let bad : ⊥ = cc in bad))
-    (cases_eq (slice_index lengths (field_number field)) 0)
-
-pub place_bind : {A B : Type 0} (place : ℕ) (r : Result A FieldKind) (f : A → Result B FieldFault) (y : B) → (at_place place r >>= f) ≡ Ok y
-    → (x : A) × (r ≡ Ok x) × (f x ≡ Ok y)
-place_bind place (Ok x) f y h = (x, refl, h)
-place_bind place (Err e) f y h = absurd (let wrong : ⊥ = cc in wrong)
-
 pub record IsRead (lengths item next : List ℕ) : Type 0 where
   pub field : Field
   pub prefix : ℕ
@@ -201,11 +183,66 @@ some_items : (items : List (List ℕ)) (lengths : List ℕ) → with_items with_
 some_items [] lengths h stands = let same : no_lengths ≡ lengths = cc h in absurd (stands (sym same))
 some_items (item ∷ items) lengths h stands = omega arith
 
-pub key_again : (lengths : List ℕ) → AreLengths lengths → lengths ≢ no_lengths → key_in (key_text lengths) ≡ Ok lengths
-unfolding key_in items_text
-key_again lengths known stands =
+key_parts : (lengths : List ℕ) → AreLengths lengths → lengths ≢ no_lengths → parts 44 (key_text lengths) ≡ item_texts None lengths fields
+unfolding items_text
+key_parts lengths known stands =
     let items : List (List ℕ) = item_texts None lengths fields in
-    let reads : with_items with_item 0 no_lengths items ≡ Ok lengths = reads_all lengths known in
-    let back : parts 44 (join_with_byte 44 items) ≡ items =
-    parts_joined items (items_plain None lengths (key_plain lengths known) fields) (some_items items lengths reads stands) in
-    rw back reads
+    parts_joined items (items_plain None lengths (key_plain lengths known) fields) (some_items items lengths (reads_all lengths known) stands)
+
+pub key_again : KeyAgain
+unfolding key_in
+key_again lengths known stands = rw (key_parts lengths known stands) (reads_all lengths known)
+
+-- ---- and is canonical
+
+key_spelled : (lengths : List ℕ) → AreLengths lengths → (field : Field) → slice_index lengths (field_number field) ≢ 0
+    → IsSpelled is_slash is_key_item field (item_text None field (slice_index lengths (field_number field)))
+key_spelled lengths known field some =
+    let n : ℕ = slice_index lengths (field_number field) in
+    let cuts = cut_slash (name_of field) (n == width_of field) (decimal n) (name_slashless field) in
+    record {
+      named = rw cuts.0 (name_found field);
+      spelled = rw cuts.1 (prefix_canonical field n (known.allowed field some));
+    }
+
+pub key_canonical : (lengths : List ℕ) → AreLengths lengths → lengths ≢ no_lengths → is_canonical_key (key_text lengths) ≡ true
+unfolding is_canonical_key
+key_canonical lengths known stands =
+    rw (key_parts lengths known stands) (printed_in_order is_slash is_key_item None lengths (key_spelled lengths known))
+
+-- ---- no other canonical text is read as that mask
+
+-- an item in its canonical spelling is what is printed
+item_is : (item : List ℕ) (field : Field) (prefix : ℕ) → field_named (front is_slash item) ≡ Some field → prefix_in field (back is_slash item) ≡ Some prefix
+    → is_canonical_prefix field (back is_slash item) ≡ true → item ≡ item_text None field prefix
+item_is item field prefix named read spelled =
+    item_joined item ∙ (λ i. named_is (front is_slash item) field named i ++ prefix_is field (back is_slash item) prefix read spelled i)
+
+key_adds : (found next item : List ℕ) → length found ≡ 9 → with_item found item ≡ Ok next
+    → (length next ≡ 9) × IsAdded is_slash is_key_item (item_at None) found next item
+key_adds found next item whole h =
+    let read = item_is_read found item next h in
+    let number : ℕ = field_number read.field in
+    let below : number < length found = omega (arith, number_below read.field, whole) in
+    let here : slice_index next number ≡ read.prefix = ap (λ ns. get_or ns number 0) (sym read.next_is) ∙ get_or-set_same found number read.prefix 0 below in
+    let some : (read.prefix == 0) ≡ false = ne_eqb read.prefix 0 (prefix_some read.field (back is_slash item) read.prefix read.prefix_is) in
+    (ap length (sym read.next_is) ∙ length-set found number read.prefix ∙ whole , record {
+      field = read.field;
+      named = read.named;
+      added = λ spelled. rw (here, some) (ap (λ x. x ∷ []) (sym (item_is item read.field read.prefix read.named read.prefix_is spelled)));
+      others = λ other ne.
+          let same : slice_index next (field_number other) ≡ slice_index found (field_number other) =
+          ap (λ ns. get_or ns (field_number other) 0) (sym read.next_is) ∙ get_or-set_other found number (field_number other) read.prefix 0 ne in
+          rw same refl;
+    })
+
+none_at : (field : Field) → item_at None no_lengths field ≡ []
+none_at field = rw (none_stands field) refl
+
+pub only_key : OnlyKey
+unfolding key_in is_canonical_key items_text
+only_key text lengths read canonical =
+    let items : parts 44 text ≡ item_texts None lengths fields =
+    only_items with_item is_slash is_key_item (item_at None) (λ found. length found ≡ 9) key_adds no_lengths lengths (parts 44 text) refl read canonical none_at
+    ∙ items_at None lengths fields in
+    sym (join_with_byte-slice_split 44 text) ∙ ap (join_with_byte 44) items

@@ -8,8 +8,11 @@ pub mod ItemLemmas
 pub mod KeyLemmas
 pub mod MaskLemmas
 pub mod NumberLemmas
+pub mod OrderLemmas
 pub mod PartLemmas
 pub mod PrefixLemmas
 pub mod PrintLemmas
+pub mod Values
+pub mod SpellingLemmas
 pub mod ValueLemmas
 pub mod VectorLemmas

@@ -9,8 +9,10 @@ use Rattle.key_mask.specs.declared.fields.Field.{Field}
 use Rattle.key_mask.specs.declared.fields.Field.TheVariants.{SrcIp, DstIp, SrcPort, DstPort, Proto, Tos, EtherType, SrcIp6, DstIp6}
 use Rattle.key_mask.specs.Fields.{width_of, kind_of, prefix_digits, is_length}
 use Rattle.key_mask.specs.Numbers.{number_in}
-use Rattle.key_mask.specs.Items.{longest_prefix, not_zero, prefix_in, prefix_text}
-use Rattle.key_mask.proofs.NumberLemmas.{number_again, decimal_pass}
+use Rattle.key_mask.specs.Items.{is_canonical_prefix, longest_prefix, not_zero, prefix_in, prefix_text}
+use Rattle.key_mask.proofs.NumberLemmas.{number_again, decimal_lead, decimal_pass, number_text}
+use Rattle.key_mask.proofs.PrintLemmas.{tail_of}
+use Rattle.key_mask.specs.Spellings.{has_no_leading_zero}
 
 -- the digits that a prefix may have are enough for the whole width
 abbrev AreEnough : Option ℕ → ℕ → Type 0
@@ -80,6 +82,19 @@ prefix_again field n e =
     rw t (behind_again (prefix_digits (kind_of field)) (width_of field) n (each_row field) e ne))
     (cases_eq n (width_of field))
 
+-- it is in its canonical spelling
+pub prefix_canonical : (field : Field) (n : ℕ) → IsTrue (is_length field n)
+    → is_canonical_prefix field (cond (n == width_of field) None (Some (decimal n))) ≡ true
+prefix_canonical field n e =
+    ⊎_elim
+    (λ (same : n ≡ width_of field). let t : (n == width_of field) ≡ true = eq-eqb n (width_of field) same in rw t refl)
+    (λ (ne : n ≢ width_of field).
+    let t : (n == width_of field) ≡ false = ne_eqb n (width_of field) ne in
+    let row = each_row field in
+    let fits = length_within field n e in
+    rw (t, decimal_lead n (omega (arith, fits.few, row.few)), behind_again (prefix_digits (kind_of field)) (width_of field) n (each_row field) e ne, t) refl)
+    (cases_eq n (width_of field))
+
 -- digits, where there are any, pass a test that digits and the slash pass
 pub prefix_pass : (p : ℕ → Bool) → p 47 ≡ true → ((c : ℕ) → 48 ≤ c → c ≤ 57 → p c ≡ true)
     → (field : Field) (n : ℕ) → n < 2 ^ 64 → list_all p (prefix_text field n) ≡ true
@@ -109,3 +124,38 @@ prefix_some field (Some text) p h =
     let one = then_some (prefix_digits (kind_of field)) read p h in
     let two = then_some (number_in one.0 (width_of field) text) not_zero p one.1 in
     not_zero_some two.0 p two.1
+
+-- ---- a prefix in its canonical spelling is what is printed
+
+behind_is : (digits : Option ℕ) (width p : ℕ) (text : List ℕ) → width ≤ 128
+    → option_and_then (λ d. option_and_then not_zero (number_in d width text)) digits ≡ Some p → has_no_leading_zero text ≡ true → text ≡ decimal p
+behind_is None width p text few h lead = absurd (let wrong : ⊥ = cc in wrong)
+behind_is (Some digits) width p text few h lead = inner (number_in digits width text) refl h where
+  inner : (o : Option ℕ) → number_in digits width text ≡ o → option_and_then not_zero o ≡ Some p → text ≡ decimal p
+  inner None e h = absurd (let wrong : ⊥ = cc in wrong)
+  inner (Some n) e h =
+      ⊎_elim
+      (λ (z : n ≡ 0). let t : (n == 0) ≡ true = eq-eqb n 0 z in let none : None ≡ Some p = rw t at h in absurd (let wrong : ⊥ = cc in wrong))
+      (λ (ne : n ≢ 0).
+      let t : (n == 0) ≡ false = ne_eqb n 0 ne in
+      let same : Some n ≡ Some p = rw t at h in
+      let equal : n ≡ p = cc same in
+      number_text digits width n text (omega (arith, few)) e lead ∙ ap decimal equal)
+      (cases_eq n 0)
+
+pub prefix_is : (field : Field) (o : Option (List ℕ)) (p : ℕ) → prefix_in field o ≡ Some p → is_canonical_prefix field o ≡ true → tail_of o ≡ prefix_text field p
+prefix_is field None p h spelled =
+    let same : width_of field ≡ p = cc h in
+    let t : (p == width_of field) ≡ true = eq-eqb p (width_of field) (sym same) in
+    rw t refl
+prefix_is field (Some text) p h spelled =
+    let row = each_row field in
+    let whole : (has_no_leading_zero text && not (p == width_of field)) ≡ true = rw h at spelled in
+    elim (has_no_leading_zero text) as (λ b. has_no_leading_zero text ≡ b → (b && not (p == width_of field)) ≡ true → 47 ∷ text ≡ prefix_text field p) [
+      | true ↦ λ lead rest.
+          elim (p == width_of field) as (λ t. not t ≡ true → 47 ∷ text ≡ cond t [] (47 ∷ decimal p)) [
+            | true ↦ λ e. absurd (false≢true e)
+            | false ↦ λ e. ap (λ ds. 47 ∷ ds) (behind_is (prefix_digits (kind_of field)) (width_of field) p text row.few h lead)
+          ] rest
+      | false ↦ λ lead rest. absurd (false≢true rest)
+    ] refl whole

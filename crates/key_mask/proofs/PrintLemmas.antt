@@ -93,6 +93,19 @@ cut_slash (x ∷ xs) b digits e =
       | false ↦ λ e. (ap (λ ys. x ∷ ys) (cut_slash xs b digits e).0, (cut_slash xs b digits e).1)
     ] e
 
+-- the slash and what stands behind it
+abbrev pub tail_of : Option (List ℕ) → List ℕ
+tail_of None = []
+tail_of (Some text) = 47 ∷ text
+
+pub item_joined : (item : List ℕ) → item ≡ front is_slash item ++ tail_of (back is_slash item)
+item_joined [] = refl
+item_joined (x ∷ xs) =
+    ⊎_elim
+    (λ (e : x ≡ 47). let t : (x == 47) ≡ true = eq-eqb x 47 e in rw t (ap (λ y. y ∷ xs) e))
+    (λ (ne : x ≢ 47). let t : (x == 47) ≡ false = ne_eqb x 47 ne in rw t (ap (λ ys. x ∷ ys) (item_joined xs)))
+    (cases_eq x 47)
+
 pub name_slashless : (field : Field) → list_all (λ c. not (is_slash c)) (name_of field) ≡ true
 name_slashless SrcIp = refl
 name_slashless DstIp = refl

@@ -1,7 +1,7 @@
 -- What the texts of an IPv6 address are: eight groups, or the groups of two sides with `::` between.
-use Rattle.std.specs.Prelude.{◌≡◌, ℕ, ◌+◌, ◌-◌, ◌≤◌, ◌⊎◌, List, [], ◌∷◌, ◌++◌, length, replicate, Some}
+use Rattle.std.specs.Prelude.{◌≡◌, ℕ, ◌+◌, ◌-◌, ◌≤◌, List, [], ◌∷◌, ◌++◌, length, replicate, Some}
 use Rattle.std.specs.List.{join_with_byte}
-use Rattle.key_mask.specs.Ipv6.{group_in, eight_groups_in}
+use Rattle.key_mask.specs.Ipv6.{group_in}
 
 -- each text is that group
 abbrev pub AreGroups : List (List ℕ) → List ℕ → Type 0
@@ -28,11 +28,3 @@ pub record IsShort (text groups : List ℕ) : Type 0 where
   pub few : length left + length right ≤ 7
   pub text_is : text ≡ join_with_byte 58 before ++ (58 ∷ 58 ∷ join_with_byte 58 behind)
   pub groups_are : groups ≡ left ++ (replicate (8 - length left - length right) 0 ++ right)
-
--- each such text is read as its groups
-abbrev pub AllAreRead : Type 0
-AllAreRead = (text groups : List ℕ) → IsFull text groups ⊎ IsShort text groups → eight_groups_in text ≡ Some groups
-
--- and no other text is read
-abbrev pub NoOthersAreRead : Type 0
-NoOthersAreRead = (text groups : List ℕ) → eight_groups_in text ≡ Some groups → IsFull text groups ⊎ IsShort text groups

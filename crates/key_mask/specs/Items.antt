@@ -1,15 +1,17 @@
 -- Lists of items with commas between, each of which names a field: what their readers and their printers share.
-use Rattle.std.specs.Prelude.{ℕ, ◌+◌, ◌==◌, Bool, if◌then◌else◌, List, [], ◌∷◌, ◌++◌, find, length, slice_index, Option, None, Some, option_and_then, Result, Ok, Err}
+use Rattle.std.specs.Prelude.{ℕ, ◌+◌, ◌==◌, ◌&&◌, Bool, true, false, not, nat_le, if◌then◌else◌, List, [], ◌∷◌, ◌++◌, find, length, slice_index, Option, None, Some, option_and_then, Result, Ok, Err}
 use Rattle.std.specs.List.{join_with_byte, sum_by}
+use Rattle.std.specs.Option.{option_map_or}
 use Rattle.std.specs.Str.{bytes_eq}
 use Rattle.std.specs.Fmt.{decimal}
+use Rattle.texts.specs.Cuts.{front}
 use Rattle.key_mask.specs.declared.fields.Field.{Field}
 use Rattle.key_mask.specs.declared.items.FieldKind.{FieldKind}
 use Rattle.key_mask.specs.declared.items.FieldKind.TheVariants.{RepeatedField}
 use Rattle.key_mask.specs.declared.items.FieldFault.{FieldFault}
 use Rattle.key_mask.specs.Fields.{fields, field_number, width_of, kind_of, name_of, prefix_digits}
 use Rattle.key_mask.specs.Numbers.{number_in}
-use Rattle.key_mask.specs.Spellings.{value_text, longest_value}
+use Rattle.key_mask.specs.Spellings.{value_text, longest_value, has_no_leading_zero}
 use Rattle.key_mask.specs.Vectors.{value_at}
 
 -- ---- reading
@@ -98,3 +100,18 @@ longest_item valued field =
 -- how many bytes the items of all fields have at most, each with a comma
 abbrev pub longest_items : Bool → ℕ
 longest_items valued = sum_by (λ field. longest_item valued field + 1) fields
+
+-- ---- canonical spellings
+
+-- no zeros in front, and not the prefix of the whole field
+abbrev pub is_canonical_prefix : Field → Option (List ℕ) → Bool
+is_canonical_prefix field None = true
+is_canonical_prefix field (Some text) =
+    has_no_leading_zero text && option_map_or (λ prefix. not (prefix == width_of field)) (prefix_behind field text) false
+
+-- items in the fields' order from a field on, no field twice, each spelled as its field's items are; a name ends at the first byte that passes the test
+abbrev pub are_in_order : (ℕ → Bool) → (Field → List ℕ → Bool) → ℕ → List (List ℕ) → Bool
+are_in_order ends is_spelled least [] = true
+are_in_order ends is_spelled least (item ∷ items) =
+    option_map_or (λ field. nat_le least (field_number field) && (is_spelled field item && are_in_order ends is_spelled (field_number field + 1) items))
+    (field_named (front ends item)) false

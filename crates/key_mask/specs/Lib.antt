@@ -4,6 +4,7 @@ pub mod Ipv6
 pub mod Ipv6Grammar
 pub mod Items
 pub mod Keys
+pub mod Laws
 pub mod Masks
 pub mod Numbers
 pub mod Spellings

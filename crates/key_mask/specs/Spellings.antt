@@ -62,13 +62,16 @@ has_no_leading_zero text = length text == 1 || not (slice_index text 0 == 48)
 abbrev pub is_lower_case : List ℕ → Bool
 is_lower_case text = list_all (λ byte. not (is_ascii_uppercase byte)) text
 
+abbrev pub is_canonical_group : List ℕ → Bool
+is_canonical_group group = has_no_leading_zero group && is_lower_case group
+
 -- numbers have no zeros in front, letters are in lower case, and no group is left out
 abbrev pub is_canonical_kind : ValueKind → List ℕ → Bool
 is_canonical_kind Ipv4 text = list_all has_no_leading_zero (parts 46 text)
 is_canonical_kind Port text = has_no_leading_zero text
 is_canonical_kind Byte text = has_no_leading_zero text
 is_canonical_kind Hex text = is_lower_case text
-is_canonical_kind Ipv6 text = list_all has_no_leading_zero (parts 58 text) && is_lower_case text && is_none (double_from 0 text)
+is_canonical_kind Ipv6 text = list_all is_canonical_group (parts 58 text) && is_none (double_from 0 text)
 
 abbrev pub is_canonical_value : Field → List ℕ → Bool
 is_canonical_value field text = is_canonical_kind (kind_of field) text

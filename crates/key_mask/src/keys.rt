@@ -1,7 +1,7 @@
 //! Keys as texts: which fields a key has, and how much of each.
-ghost use Rattle.std.specs.Prelude.{◌≡◌, ◌≢◌, ◌≤◌, length, IfOk, Ok};
+ghost use Rattle.std.specs.Prelude.{◌≡◌, ◌≢◌, ◌≤◌, length, IfOk, IsTrue, Ok};
 ghost use Rattle.key_mask.specs.Masks.{AreLengths, no_lengths};
-ghost use Rattle.key_mask.specs.Keys.{with_item, key_in, key_text, longest_key};
+ghost use Rattle.key_mask.specs.Keys.{with_item, key_in, key_text, is_canonical_key, longest_key};
 
 use crate::items::{FieldFault, FieldKind, FromItems, field_of, prefix_of, read_items};
 use crate::masks::Mask;
@@ -39,6 +39,7 @@ pub fn put_key(mask: &Mask) -> Line
     requires { mask.now ≢ no_lengths }
     ensures text { result.bytes ≡ key_text mask.now }
     ensures again { key_in result.bytes ≡ Ok mask.now }
+    ensures canonical { IsTrue (is_canonical_key result.bytes) }
     ensures short { length result.bytes ≤ longest_key }
     ensures known { AreLengths mask.now }
 {

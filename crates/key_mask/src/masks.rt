@@ -79,7 +79,8 @@ impl Mask {
 
     /// The bytes of the vector that the mask leaves, each bit 1.
     pub fn bytes(&self) -> &[u8; KEY_BYTES]
-        ensures { result.now ≡ mask_bytes_of self.now }
+        ensures value { result.now ≡ mask_bytes_of self.now }
+        ensures known { AreLengths self.now }
     {
         &self.bytes
     }

@@ -2,7 +2,7 @@
 ghost use Rattle.std.specs.Prelude.{◌≡◌, ◌<◌, ◌≤◌, ◌^◌, length};
 ghost use Rattle.key_mask.specs.Bytes.{and_bytes, xor_bytes};
 ghost use Rattle.key_mask.specs.Fields.{width_of};
-ghost use Rattle.key_mask.specs.Masks.{mask_bytes_of};
+ghost use Rattle.key_mask.specs.Masks.{AreLengths, mask_bytes_of};
 ghost use Rattle.key_mask.specs.Vectors.{big_endian, value_at, with_value};
 
 use crate::fields::{Field, KEY_BYTES};
@@ -27,7 +27,9 @@ impl Model for KeyVec {
 impl KeyVec {
     /// What the mask leaves of it.
     pub fn masked(&self, mask: &Mask) -> KeyVec
-        ensures { result ≡ and_bytes self.now (mask_bytes_of mask.now) }
+        ensures value { result ≡ and_bytes self.now (mask_bytes_of mask.now) }
+        ensures long { length result ≡ KEY_BYTES }
+        ensures known { AreLengths mask.now }
     {
         KeyVec(and_of(&self.0, mask.bytes()))
     }

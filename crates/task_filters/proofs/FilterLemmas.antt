@@ -1,16 +1,19 @@
 -- Two filters share a vector where no bit of both masks tells their values apart.
-use Rattle.std.proofs.Common.{◌<◌, ◌≡◌, ℕ, suc, ◌+◌, ◌%◌, min, Bool, true, false, ◌||◌, List, [], ◌∷◌, length, drop, get_or, bit_and, bit_or, bit_xor, refl, ap, ap₂, sym, ◌∙◌, arith, ⊎_elim}
+use Rattle.std.proofs.Common.{◌<◌, ◌≡◌, ℕ, suc, ◌+◌, ◌%◌, min, Bool, true, false, ◌||◌, List, [], ◌∷◌, length, drop, get_or, bit_and, bit_or, bit_xor, refl, ap, ap₂, sym, ◌∙◌, arith, ⊎_elim, IsTrue, ◌↔◌}
 use Rattle.std.specs.Int.{bit_at}
 use Rattle.std.specs.List.{All, list_any}
 use Rattle.std.proofs.lemmas.Bool.{cases_Bool, false≢true}
-use Rattle.std.proofs.lemmas.Bool.Decides.{nat_tests}
+use Rattle.std.proofs.lemmas.Bool.Decides.{nat_tests, same_from_decides}
+use Rattle.std.proofs.lemmas.Slice.Eq.{bytes_eq-Decides}
+use Rattle.std.specs.Str.{bytes_eq}
 use Rattle.std.proofs.lemmas.List.{get_or_default}
 use Rattle.std.proofs.lemmas.Nat.{or_lt}
 use Rattle.std.proofs.lemmas.Nat.Bits.{same_from_bits, bit_at_and, bit_at_xor, bit_at_or, bit_at-lt, bit_at-zero}
-use Rattle.key_mask.specs.Bytes.{and_bytes, or_bytes, xor_bytes}
+use Rattle.key_mask.specs.Bytes.{bytewise, and_bytes, xor_bytes}
 use Rattle.key_mask.specs.Masks.{mask_bytes_of}
 use Rattle.key_mask.proofs.BytesLemmas.{length-bytewise, get_or-bytewise}
-use Rattle.task_filters.specs.Filters.{Pattern, IsKept, IsVector, AreDisjoint, are_disjoint, difference, some_bit}
+use Rattle.task_filters.specs.Filters.{Pattern, IsFilter, IsVector, Matches, AreDisjoint, are_disjoint, difference, passes, some_bit}
+use Rattle.task_filters.proofs.ByteLemmas.{is_vector}
 
 -- ---- one byte
 
@@ -53,6 +56,9 @@ together x y a b p q same = (same_from_bits (bit_and (bit_or x y) a) x one, same
       (omega (arith, first i, second i, none i, bit_at-lt x i, bit_at-lt y i, bit_at-lt a i, bit_at-lt b i))
 
 -- ---- lists of bytes
+
+abbrev or_bytes : List ℕ → List ℕ → List ℕ
+or_bytes = bytewise bit_or
 
 zero_suc : (n : ℕ) → 0 ≡ suc n → ⊥
 zero_suc n e = omega (arith, e)
@@ -104,17 +110,26 @@ bytes_together xs ys p q k d h =
     (or_lt 8 (get_or xs k 0) (get_or ys k 0) (p k 0 (omega (arith, long))) (q k 0 (omega (arith, long))))
 
 -- and others share one
-pub told_apart : (one two : Pattern) → IsVector one.value → IsVector two.value → IsKept one → IsKept two → AreDisjoint one two
-    → are_disjoint one two ≡ true
+pub told_apart : (one two : Pattern) → IsFilter one → IsFilter two → AreDisjoint one two → are_disjoint one two ≡ true
 unfolding are_disjoint
-told_apart one two p q first second apart =
+told_apart one two p q apart =
+    let first = is_vector one p in
+    let second = is_vector two q in
     ⊎_elim
     (λ (e : list_any some_bit (difference one two) ≡ true). e)
     (λ (e : list_any some_bit (difference one two) ≡ false).
-    let both = shared one.value two.value (mask_bytes_of one.mask) (mask_bytes_of two.mask) (p.long ∙ sym q.long) first second e in
+    let both = shared one.value two.value (mask_bytes_of one.mask) (mask_bytes_of two.mask) (first.long ∙ sym second.long) p.kept q.kept e in
     let vector : IsVector (or_bytes one.value two.value) = record {
-      long = omega (arith, length-bytewise bit_or one.value two.value, p.long, q.long);
-      bytes = bytes_together one.value two.value p.bytes q.bytes;
+      long = omega (arith, length-bytewise bit_or one.value two.value, first.long, second.long);
+      bytes = bytes_together one.value two.value first.bytes second.bytes;
     } in
     absurd (apart (or_bytes one.value two.value) vector both.0 both.1))
     (cases_Bool (list_any some_bit (difference one two)))
+
+-- ---- the test of a vector
+
+pub test_is : (pattern : Pattern) (vector : List ℕ) (matched : Bool) → (IsTrue matched ↔ Matches pattern vector) → matched ≡ passes pattern vector
+unfolding passes
+test_is pattern vector matched exact =
+    same_from_decides matched (bytes_eq (and_bytes vector (mask_bytes_of pattern.mask)) pattern.value)
+    exact (bytes_eq-Decides (and_bytes vector (mask_bytes_of pattern.mask)) pattern.value)

@@ -1,4 +1,4 @@
+pub mod AgainLemmas
+pub mod ByteLemmas
 pub mod FilterLemmas
-pub mod PrintLemmas
 pub mod Values
-pub mod TermLemmas

@@ -2,9 +2,8 @@
 use Rattle.std.specs.Prelude.{◌≡◌, ◌<◌, ◌==◌, ℕ, Bool, not, List, length}
 use Rattle.std.specs.List.{All, list_any}
 use Rattle.std.specs.Str.{bytes_eq}
-use Rattle.key_mask.specs.declared.fields.TheConstants.{KEY_BYTES}
 use Rattle.key_mask.specs.Bytes.{and_bytes, xor_bytes}
-use Rattle.key_mask.specs.Masks.{mask_bytes_of}
+use Rattle.key_mask.specs.Masks.{AreLengths, mask_bytes_of}
 
 -- a filter: the bytes of its value, and the prefix lengths of its mask
 pub record Pattern : Type 0 where
@@ -14,6 +13,12 @@ pub record Pattern : Type 0 where
 -- the value has no bit outside the mask
 abbrev pub IsKept : Pattern → Type 0
 IsKept pattern = and_bytes pattern.value (mask_bytes_of pattern.mask) ≡ pattern.value
+
+-- what a filter keeps: a value of 48 bytes under a mask
+pub record IsFilter (pattern : Pattern) : Type 0 where
+  pub kept : IsKept pattern
+  pub long : length pattern.value ≡ 48
+  pub known : AreLengths pattern.mask
 
 -- what the mask leaves of the vector is the value
 abbrev pub Matches : Pattern → List ℕ → Type 0
@@ -25,7 +30,7 @@ passes pattern vector = bytes_eq (and_bytes vector (mask_bytes_of pattern.mask))
 
 -- the bytes of a key vector
 pub record IsVector (vector : List ℕ) : Type 0 where
-  pub long : length vector ≡ KEY_BYTES
+  pub long : length vector ≡ 48
   pub bytes : All (λ byte. byte < 256) vector
 
 -- no vector matches both

@@ -1,14 +1,12 @@
 //! A filter matches the vectors that have its value under its mask.
-ghost use Rattle.std.specs.Prelude.{◌≡◌, ◌≤◌, ◌↔◌, IsTrue, Ok, length};
-ghost use Rattle.key_mask.specs.Bytes.{xor_bytes};
-ghost use Rattle.key_mask.specs.Masks.{AreLengths};
-ghost use Rattle.task_filters.specs.Filters.{IsKept, IsVector, Matches, passes, AreDisjoint, are_disjoint};
-ghost use Rattle.task_filters.specs.Printing.{filter_text};
-ghost use Rattle.task_filters.specs.Terms.{filter_in, pattern_of};
+ghost use Rattle.std.specs.Prelude.{◌≡◌, ◌≤◌, ◌↔◌, IsTrue, IfOk, Ok, length};
+ghost use Rattle.key_mask.specs.Bytes.{and_bytes};
+ghost use Rattle.task_filters.specs.Filters.{IsFilter, IsVector, Matches, passes, AreDisjoint, are_disjoint};
+ghost use Rattle.task_filters.specs.Printing.{filter_text, longest_filter};
+ghost use Rattle.task_filters.specs.Terms.{filter_in};
 
-use crate::printing::put_filter;
-use crate::terms::{Terms, bytes_of, terms_of};
-use key_mask::{FieldFault, KEY_BYTES, KeyVec, Line, Mask, mask_with, xor_of};
+use crate::terms::terms_of;
+use key_mask::{FieldFault, KEY_BYTES, KeyVec, Line, Mask, eight_at, put_items, xor_of};
 use std::marker::Model;
 
 /// The value that the bits of a mask must have.
@@ -19,62 +17,71 @@ pub struct Filter {
 }
 
 impl Model for Filter {
-    ghost use Rattle.task_filters.specs.Filters.{Pattern, IsKept};
+    ghost use Rattle.task_filters.specs.Filters.{Pattern, IsFilter};
 
     ghost Value = { Pattern };
 
     ghost view = { λ f. record { value = f.value; mask = f.mask } };
 
-    ghost invariant = { λ f. IsKept (record { value = f.value; mask = f.mask }) };
+    ghost invariant = { λ f. IsFilter (record { value = f.value; mask = f.mask }) };
 
     ghost inverse = { λ pattern. record { value = pattern.value; mask = pattern.mask } };
 }
 
 impl Filter {
     /// The filter that the text writes: `all`, which every vector matches, or items with commas
-    /// between, each `FIELD:VALUE`, for an address with `/` and a prefix of 1 to 32 bits or
-    /// without. Bits of an address past its prefix count as 0.
+    /// between, each `FIELD:VALUE`, for an address with `/` and a prefix or without. Bits of an
+    /// address past its prefix count as 0.
+    #[tactic(auto, using(key_mask::proofs::BytesLemmas::and_bytes_twice))]
     pub fn parse(text: &[u8]) -> Result<Filter, FieldFault>
         ensures { result ≡ filter_in text.now }
     {
-        match terms_of(text) {
-            Ok(terms) => Ok(filter_with(&terms)),
-            Err(fault) => Err(fault),
-        }
+        let terms = terms_of(text)?;
+        Ok(Filter {
+            value: terms.value.masked(&terms.mask),
+            mask: terms.mask,
+        })
     }
 
     /// The canonical text of the filter, which is read as it: `all`, or its fields in their order.
-    #[tactic(auto, using(crate::proofs::PrintLemmas::filter_again))]
+    #[tactic(auto, unfolding(crate::specs::Printing::filter_text))]
     pub fn put(&self) -> Line
         ensures text { result.bytes ≡ filter_text self.now }
         ensures again { filter_in result.bytes ≡ Ok self.now }
-        ensures short { length result.bytes ≤ 210 }
+        ensures short { length result.bytes ≤ longest_filter }
+        ensures keeps { IsFilter self.now }
     {
-        put_filter(&self.value, &self.mask)
+        if self.mask.is_empty() {
+            let mut line = Line::new();
+            line.push_str("all");
+            return line;
+        }
+        put_items(&self.mask, Some(&self.value))
     }
 
     /// The value, 0 in each bit outside the mask.
     pub fn value(&self) -> &KeyVec
         ensures value { result.now ≡ self.now.value }
-        ensures kept { IsKept self.now }
+        ensures keeps { IsFilter self.now }
+        ensures vector { IsVector result.now }
     {
         &self.value
     }
 
     /// The bits that it looks at.
     pub fn mask(&self) -> &Mask
-        ensures { result.now ≡ self.now.mask }
+        ensures value { result.now ≡ self.now.mask }
+        ensures keeps { IsFilter self.now }
     {
         &self.mask
     }
 
     /// Whether the vector has the filter's value under its mask.
-    #[tactic(auto, unfolding(crate::specs::Filters::passes))]
     pub fn matches(&self, vec: &KeyVec) -> bool
         ensures exact { IsTrue result ↔ Matches self.now vec.now }
         ensures test { result ≡ passes self.now vec.now }
     {
-        vec.masked(&self.mask) == self.value
+        leaves(&vec.0, self.mask.bytes(), &self.value.0)
     }
 
     /// Whether no vector matches both filters.
@@ -90,42 +97,24 @@ impl Filter {
 /// Whether the values differ in a bit of both masks.
 #[tactic(auto, unfolding(crate::specs::Filters::are_disjoint))]
 fn differ(one: &KeyVec, one_mask: &Mask, two: &KeyVec, two_mask: &Mask) -> bool
-    ensures first { IsVector one.now }
-    ensures second { IsVector two.now }
-    ensures test { result ≡ are_disjoint (record { value = one.now; mask = one_mask.now }) (record { value = two.now; mask = two_mask.now }) }
+    ensures { result ≡ are_disjoint (record { value = one.now; mask = one_mask.now }) (record { value = two.now; mask = two_mask.now }) }
 {
-    let apart = difference_of(one, two);
+    let apart = KeyVec(xor_of(&one.0, &two.0));
     let both = apart.masked(one_mask).masked(two_mask);
     both.0.iter().any(|byte| *byte != 0)
 }
 
-/// The bits in which the vectors differ.
-fn difference_of(one: &KeyVec, two: &KeyVec) -> KeyVec
-    ensures value { result ≡ xor_bytes one.now two.now }
-    ensures first { IsVector one.now }
-    ensures second { IsVector two.now }
+/// Whether the mask leaves this value of the bytes, which are looked at eight at a time.
+fn leaves(bytes: &[u8; KEY_BYTES], mask: &[u8; KEY_BYTES], value: &[u8; KEY_BYTES]) -> bool
+    ensures { IsTrue result ↔ (and_bytes bytes.now mask.now ≡ value.now) }
 {
-    KeyVec(bits_apart(&one.0, &two.0))
-}
-
-/// The bits in which the bytes differ.
-fn bits_apart(one: &[u8; KEY_BYTES], two: &[u8; KEY_BYTES]) -> [u8; KEY_BYTES]
-    ensures value { result ≡ xor_bytes one.now two.now }
-    ensures first { IsVector one.now }
-    ensures second { IsVector two.now }
-{
-    xor_of(one, two)
-}
-
-/// The filter of these terms.
-#[tactic(auto, using(key_mask::proofs::BytesLemmas::and_bytes_twice))]
-fn filter_with(terms: &Terms) -> Filter
-    requires { AreLengths terms.now.lengths }
-    ensures { result ≡ pattern_of terms.now }
-{
-    let mask = mask_with(&terms.lengths);
-    let value = KeyVec(bytes_of(&terms.values)).masked(&mask);
-    Filter { value, mask }
+    'eights: for eight in 0..KEY_BYTES / 8 {
+        let at = 8 * eight;
+        if eight_at(bytes, at) & eight_at(mask, at) != eight_at(value, at) {
+            return false;
+        }
+    }
+    true
 }
 
 #[cfg(test)]
@@ -135,52 +124,72 @@ mod tests {
     use std::test::Fail;
 
     // over TCP from 10.0.0.20 to port 80 of 10.128.0.1
-    const PACKET: KeyVec = KeyVec([10, 0, 0, 20, 10, 128, 0, 1, 4, 210, 0, 80, 6, 0, 8, 0]);
+    const PACKET: KeyVec = KeyVec([
+        10, 0, 0, 20, 10, 128, 0, 1, 4, 210, 0, 80, 6, 0, 8, 0, // ports, protocol and type too
+        0, 0, 0, 0, 0, 0, 0, 0, 0, 0, 0, 0, 0, 0, 0, 0, // no IPv6 source
+        0, 0, 0, 0, 0, 0, 0, 0, 0, 0, 0, 0, 0, 0, 0, 0,
+    ]);
 
-    #[test]
-    fn filters_match_packets(rt: HostRuntime) {
-        let rows: [(&[u8], bool); 8] = [
-            (b"all", true),
-            (b"src_ip:10.1.2.3/8", true),
-            (b"src_ip:10.0.0.21", false),
-            (b"src_ip:10.0.0.21/31,dst_ip:10.255.0.0/9", true),
-            (b"ethertype:0x0800,proto:006", true),
-            (b"ethertype:0x86dD", false),
-            (b"dst_port:00080,src_port:1234,tos:0", true),
-            (b"dst_port:80,proto:17", false),
-        ];
-        for (text, matched) in rows {
-            match Filter::parse(text) {
-                Ok(filter) => assert_eq!(rt; filter.matches(&PACKET), matched),
-                Err(_) => assert!(rt; false),
-            }
-        }
+    // over UDP from 2001:db8::1 to port 53 of fe80::2:0:ff
+    const PACKET6: KeyVec = KeyVec([
+        0, 0, 0, 0, 0, 0, 0, 0, 4, 210, 0, 53, 17, 0, 0x86, 0xdd, // no IPv4 address
+        0x20, 1, 0x0d, 0xb8, 0, 0, 0, 0, 0, 0, 0, 0, 0, 0, 0, 1, // its source
+        0xfe, 0x80, 0, 0, 0, 0, 0, 0, 0, 0, 0, 2, 0, 0, 0, 0xff,
+    ]);
+
+    fn parsed(text: &[u8]) -> Result<Filter, Fail> {
+        Ok(Filter::parse(text).ok().ok_or("a filter")?)
     }
 
     #[test]
-    fn filters_share_vectors(rt: HostRuntime) {
-        let rows: [(&[u8], &[u8], bool); 6] = [
+    fn filters_match_packets(rt: HostRuntime) -> Result<(), Fail> {
+        let rows: [(&[u8], bool, bool); 14] = [
+            (b"all", true, true),
+            (b"src_ip:10.1.2.3/8", true, false),
+            (b"src_ip:10.0.0.21", false, false),
+            (b"src_ip:10.0.0.21/31,dst_ip:10.255.0.0/9", true, false),
+            (b"ethertype:0x0800,proto:006", true, false),
+            (b"ethertype:0x86dD", false, true),
+            (b"dst_port:00080,src_port:1234,tos:0", true, false),
+            (b"dst_port:80,proto:17", false, false),
+            (b"src_port:1234", true, true),
+            (b"src_ip6:2001:db8::/32", false, true),
+            (b"src_ip6:2001:DB8::2/127", false, false),
+            (b"src_ip6:2001:DB8::/127,proto:17", false, true),
+            (b"dst_ip6:fe80::2:0:ff", false, true),
+            (b"dst_ip6:fe80::2:0:fe", false, false),
+        ];
+        for (text, matched, matched6) in rows {
+            let filter = parsed(text)?;
+            assert_eq!(rt; filter.matches(&PACKET), matched);
+            assert_eq!(rt; filter.matches(&PACKET6), matched6);
+        }
+        Ok(())
+    }
+
+    #[test]
+    fn filters_share_vectors(rt: HostRuntime) -> Result<(), Fail> {
+        let rows: [(&[u8], &[u8], bool); 8] = [
             (b"all", b"proto:6", false),
             (b"proto:6", b"proto:17", true),
             (b"src_ip:10.0.0.0/8", b"src_ip:10.0.0.20", false),
             (b"src_ip:10.0.0.0/9", b"src_ip:10.128.0.0/9", true),
             (b"src_ip:10.0.0.0/9", b"src_ip:10.128.0.0/8", false),
             (b"src_port:80", b"dst_port:81", false),
+            (b"src_ip6:1::/16", b"src_ip6:2::/16", true),
+            (b"dst_ip6:1::/15", b"dst_ip6:1::8", false),
         ];
         for (one, two, apart) in rows {
-            match (Filter::parse(one), Filter::parse(two)) {
-                (Ok(one), Ok(two)) => {
-                    assert_eq!(rt; one.disjoint(&two), apart);
-                    assert_eq!(rt; two.disjoint(&one), apart);
-                }
-                _ => assert!(rt; false),
-            }
+            let (one, two) = (parsed(one)?, parsed(two)?);
+            assert_eq!(rt; one.disjoint(&two), apart);
+            assert_eq!(rt; two.disjoint(&one), apart);
         }
+        Ok(())
     }
 
     #[test]
     fn faults_name_the_first_item(rt: HostRuntime) {
-        let rows: [(&[u8], FieldKind, usize); 20] = [
+        let rows: [(&[u8], FieldKind, usize); 24] = [
             (b"", FieldKind::UnknownField, 0),
             (b"ttl:1,tos:1,proto:6", FieldKind::UnknownField, 0),
             (b"tos:1,Proto:6,src_port:80", FieldKind::UnknownField, 6),
@@ -199,7 +208,11 @@ mod tests {
                 14,
             ),
             (b"tos:1,proto:6,dst_ip:1.2.3.4/+8", FieldKind::BadPrefix, 14),
+            (b"tos:1,src_ip6:::/129", FieldKind::BadPrefix, 6),
+            (b"tos:1,src_ip6:::/0", FieldKind::BadPrefix, 6),
             (b"tos,proto:6", FieldKind::BadValue, 0),
+            (b"tos:1,src_ip6:1::2::3/8", FieldKind::BadValue, 6),
+            (b"tos:1,dst_ip6:10.0.0.1", FieldKind::BadValue, 6),
             (b"ethertype:2048,tos:1", FieldKind::BadValue, 0),
             (b"tos:1,src_port:65536,proto:6", FieldKind::BadValue, 6),
             (b"tos:1,src_ip:/8,ttl:1", FieldKind::BadValue, 6),
@@ -213,5 +226,36 @@ mod tests {
         for (text, kind, place) in rows {
             assert_eq!(rt; Filter::parse(text), Err(FieldFault { kind, place }));
         }
+    }
+
+    #[test]
+    fn filters_print_in_one_spelling(rt: HostRuntime) -> Result<(), Fail> {
+        let rows: [(&[u8], &str); 10] = [
+            (b"all", "all"),
+            (b"src_ip:10.1.2.3/8", "src_ip:10.0.0.0/8"),
+            (b"dst_ip:010.1.2.003/32", "dst_ip:10.1.2.3"),
+            (b"src_ip6:2001:db8::/32", "src_ip6:2001:db8:0:0:0:0:0:0/32"),
+            (b"dst_ip6:::/128", "dst_ip6:0:0:0:0:0:0:0:0"),
+            (b"src_ip6:FFFF::abcd/17", "src_ip6:ffff:0:0:0:0:0:0:0/17"),
+            (
+                b"dst_ip6:1:02:003:0004:5:6:7:8/127,tos:9",
+                "tos:9,dst_ip6:1:2:3:4:5:6:7:8/127",
+            ),
+            (b"proto:006,ethertype:0x86DD", "proto:6,ethertype:0x86dd"),
+            (
+                b"tos:0,dst_port:65535,src_port:00080",
+                "src_port:80,dst_port:65535,tos:0",
+            ),
+            (
+                b"ethertype:0x0800,src_ip:255.255.255.255/1",
+                "src_ip:128.0.0.0/1,ethertype:0x0800",
+            ),
+        ];
+        for (text, canonical) in rows {
+            let filter = parsed(text)?;
+            assert_eq!(rt; filter.put().as_str(), canonical);
+            assert_eq!(rt; Filter::parse(canonical.as_bytes()), Ok(filter));
+        }
+        Ok(())
     }
 }

@@ -2,7 +2,6 @@
 #![tactic(auto)]
 
 mod filters;
-mod printing;
 mod terms;
 
 pub use filters::Filter;
