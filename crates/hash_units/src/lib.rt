@@ -4,8 +4,11 @@
 mod keys;
 pub mod laws;
 mod parts;
+mod tables;
 mod toeplitz;
 
 pub use keys::{HASH_KEY_BYTES, HashKey, standard};
 pub use parts::{bit, rho, row_hash};
+pub use std::alloc::AllocError as OutOfMemory;
+pub use tables::ByteTables;
 pub use toeplitz::hash;

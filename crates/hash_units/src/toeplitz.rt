@@ -30,7 +30,7 @@ fn hash_bytes(hash_key: &[u8; HASH_KEY_BYTES], bytes: &[u8; KEY_BYTES]) -> u32
 }
 
 /// The XOR of the windows at the ones of byte `at`.
-fn word(hash_key: &[u8; HASH_KEY_BYTES], at: usize, byte: u8) -> u32
+pub(crate) fn word(hash_key: &[u8; HASH_KEY_BYTES], at: usize, byte: u8) -> u32
     requires { at + 5 ≤ HASH_KEY_BYTES }
     ensures { result ≡ byte_word hash_key.now at byte }
 {
