@@ -99,7 +99,13 @@ impl ByteTables<KEY_BYTES> {
     }
 
     /// The hash of the bytes before `at`, with eight bytes more.
-    fn with_eight(&self, start: u32, at: usize, bytes: &[u8; KEY_BYTES], mask: &[u8; KEY_BYTES]) -> u32
+    fn with_eight(
+        &self,
+        start: u32,
+        at: usize,
+        bytes: &[u8; KEY_BYTES],
+        mask: &[u8; KEY_BYTES],
+    ) -> u32
         requires room { at + 8 ≤ KEY_BYTES }
         requires start { start ≡ hash_of_first self.now (and_bytes bytes.now mask.now) at }
         ensures { result ≡ hash_of_first self.now (and_bytes bytes.now mask.now) (at + 8) }
@@ -114,7 +120,11 @@ impl ByteTables<KEY_BYTES> {
 }
 
 /// The words of the first `count` bytes.
-fn words_of(alloc: Global, hash_key: &[u8; HASH_KEY_BYTES], count: usize) -> Result<Vec<u32>, OutOfMemory>
+fn words_of(
+    alloc: Global,
+    hash_key: &[u8; HASH_KEY_BYTES],
+    count: usize,
+) -> Result<Vec<u32>, OutOfMemory>
     requires some { 1 ≤ count }
     requires few { count ≤ 48 }
     ensures { IfOk result (λ words. AreTables count hash_key.now words.items) }
