@@ -2,11 +2,11 @@
 use Rattle.std.proofs.Common.{◌≡◌, ℕ, zero, suc, ◌+◌, ◌-◌, ◌<◌, ◌≤◌, ◌++◌, Bool, true, false, List, [], ◌∷◌, max, length, map, fold, take, drop, get_or, replicate, sum_by, nat_lt, if◌then◌else◌, refl, ap, sym, ◌∙◌, arith}
 use Rattle.std.specs.List.{All}
 use Rattle.std.proofs.lemmas.Bool.{ltb-true, ltb-false}
-use Rattle.std.proofs.lemmas.List.{take_at, drop-replicate}
+use Rattle.std.proofs.lemmas.List.{take_at, drop-replicate, get_or-replicate, length-replicate}
 use Rattle.std.proofs.lemmas.List.Elements.{All-get_or, All-head, All-tail, All-weaker}
 use Rattle.std.proofs.lemmas.List.Sums.{sum_by-cons, sum_by_more_le, sum_by-le, get_or-le-sum_by}
 use Rattle.addr_translate.specs.declared.shapes.GroupShape.{GroupShape}
-use Rattle.addr_translate.specs.Geometry.{Geometry, group_in, no_group, array_count, arrays_before, groups_ended, group_number, bits_of, greatest_bits, unused_group, padded_groups, IsGroup, IsGeometry, IsPadded}
+use Rattle.addr_translate.specs.Geometry.{Geometry, group_in, no_group, array_count, arrays_before, groups_ended, group_number, bits_of, greatest_bits, equal_geometry, unused_group, padded_groups, IsGroup, IsGeometry, IsPadded}
 
 abbrev cmus : GroupShape → ℕ
 cmus g = g.cmus
@@ -49,7 +49,26 @@ ended_is (g ∷ gs) (suc n) array within from below =
       by rest true e = absurd (omega (arith, ltb-true array g.cmus e, from, sum_by-cons cmus g (take n gs)))
       by rest false e = ap suc (rest (ltb-false array g.cmus e))
 
+-- an array that is one of theirs stands in one of the groups
+pub ended_below : (groups : List GroupShape) (array : ℕ) → array < sum_by cmus groups → groups_ended groups array < length groups
+unfolding groups_ended
+ended_below [] array within = absurd (omega (arith, within))
+ended_below (g ∷ gs) array within =
+    by (λ large. ended_below gs (array - g.cmus) (omega (arith, within, sum_by-cons cmus g gs, large))) (nat_lt array g.cmus) refl where
+      by : (g.cmus ≤ array → groups_ended gs (array - g.cmus) < length gs)
+          → (b : Bool) → nat_lt array g.cmus ≡ b → (if b then 0 else suc (groups_ended gs (array - g.cmus))) < suc (length gs)
+      by rest true e = omega arith
+      by rest false e = omega (arith, rest (ltb-false array g.cmus e))
+
 -- ---- the bits of arrays
+
+-- of equal groups all arrays have the same
+pub equal_bits : (count : ℕ) (group : GroupShape) (split array : ℕ) → array < array_count (equal_geometry count group split)
+    → bits_of (equal_geometry count group split) array ≡ group.bits
+equal_bits count group split array within =
+    let number : ℕ = group_number (equal_geometry count group split) array in
+    let exists : number < count = omega (arith, ended_below (replicate count group) array within, length-replicate count group) in
+    ap (λ (g : GroupShape). g.bits) (get_or-replicate count number group no_group exists)
 
 start_within : (start : ℕ) (xs : List ℕ) → start ≤ fold max start xs
 start_within start [] = omega arith

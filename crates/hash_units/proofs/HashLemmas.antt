@@ -1,10 +1,10 @@
 -- The hash as an XOR over places: how it grows, and that it is linear.
-use Rattle.std.proofs.Common.{◌≡◌, ℕ, zero, suc, ◌+◌, ◌-◌, ◌*◌, ◌/◌, ◌%◌, ◌^◌, ◌<◌, ◌==◌, Bool, true, false, not, cond, List, [], ◌∷◌, ◌++◌, length, map, get_or, bit_and, bit_xor, refl, ap, ap₂, sym, ◌∙◌, arith, ⊎_elim}
+use Rattle.std.proofs.Common.{◌≡◌, ℕ, zero, suc, ◌+◌, ◌-◌, ◌*◌, ◌/◌, ◌%◌, ◌^◌, ◌<◌, ◌==◌, Bool, true, false, not, cond, List, [], ◌∷◌, ◌++◌, length, map, take, drop, get_or, bit_and, bit_xor, refl, ap, ap₂, sym, ◌∙◌, arith, ⊎_elim}
 use Rattle.std.specs.Int.{bit_at}
 use Rattle.std.specs.Int.Bits.{xor_assoc, xor_self, xor_zero_l, xor_zero_r}
 use Rattle.std.specs.List.{filter, range_with_len}
 use Rattle.std.proofs.lemmas.Bool.{cases_Bool}
-use Rattle.std.proofs.lemmas.List.{map-append, map-id}
+use Rattle.std.proofs.lemmas.List.{map-append, map-id, length-drop, length-take-le, get_or-drop, get_or-take, get_or-replicate}
 use Rattle.std.proofs.lemmas.List.Elements.{filter-append}
 use Rattle.std.proofs.lemmas.List.FromFn.{map-range_with_len_more}
 use Rattle.std.proofs.lemmas.Nat.{xor_comm, xor_lt, or_lt, shr_le, mod_below}
@@ -13,8 +13,8 @@ use Rattle.key_mask.specs.Bytes.{and_bytes, xor_bytes}
 use Rattle.key_mask.specs.Masks.{mask_bytes_of}
 use Rattle.key_mask.proofs.BytesLemmas.{length-bytewise, get_or-xor_bytes, and_bytes-xor_bytes}
 use Rattle.key_mask.proofs.MaskLemmas.{length-mask_bytes_of}
-use Rattle.hash_units.specs.Toeplitz.{be_value, window, is_one, xor_all, hash_of, byte_word, row_hash_of}
-use Rattle.hash_units.specs.Laws.{HashIsLinear, MasksAdd, PairsServe}
+use Rattle.hash_units.specs.Toeplitz.{be_value, window, is_one, xor_all, hash_of, hash_of_first, byte_word, row_hash_of}
+use Rattle.hash_units.specs.Laws.{HashIsLinear, MasksAdd, PairsServe, FirstSixteen}
 
 -- ---- an XOR over the places below n that pass
 
@@ -150,12 +150,8 @@ pairs_serve hash_key bytes one two mask e =
 
 -- ---- byte by byte
 
--- the hash of the first n bytes
-abbrev pub hash_upto : List ℕ → List ℕ → ℕ → ℕ
-hash_upto hash_key bytes n = xor_upto (window hash_key) (is_one bytes) (8 * n)
-
 pub hash_byte_more : (hash_key bytes : List ℕ) (at : ℕ)
-    → hash_upto hash_key bytes (at + 1) ≡ bit_xor (hash_upto hash_key bytes at) (byte_word hash_key at (get_or bytes at 0))
+    → hash_of_first hash_key bytes (at + 1) ≡ bit_xor (hash_of_first hash_key bytes at) (byte_word hash_key at (get_or bytes at 0))
 unfolding byte_word
 hash_byte_more hash_key bytes at =
     let eight : 8 * (at + 1) ≡ 8 * at + 8 = omega arith in
@@ -165,7 +161,7 @@ hash_byte_more hash_key bytes at =
     ap₂ (λ k m. bit_at (get_or bytes k 0) (7 - m) == 1) byte bit in
     ap (xor_upto (window hash_key) (is_one bytes)) eight
     ∙ xor_add (window hash_key) (is_one bytes) (8 * at) 8
-    ∙ ap (bit_xor (hash_upto hash_key bytes at))
+    ∙ ap (bit_xor (hash_of_first hash_key bytes at))
     (xor_agree (λ b. window hash_key (8 * at + b)) (λ b. is_one bytes (8 * at + b)) (λ b. bit_at (get_or bytes at 0) (7 - b) == 1) 8 test)
 
 -- a byte that is 0 has no part in the hash
@@ -173,9 +169,46 @@ pub byte_word_zero : (hash_key : List ℕ) (at : ℕ) → byte_word hash_key at 
 unfolding byte_word
 byte_word_zero hash_key at = refl
 
-pub hash_all : (hash_key bytes : List ℕ) (n : ℕ) → n ≡ length bytes → hash_upto hash_key bytes n ≡ hash_of hash_key bytes
+pub hash_all : (hash_key bytes : List ℕ) (n : ℕ) → n ≡ length bytes → hash_of_first hash_key bytes n ≡ hash_of hash_key bytes
 unfolding hash_of
-hash_all hash_key bytes n e = ap (hash_upto hash_key bytes) e
+hash_all hash_key bytes n e = ap (hash_of_first hash_key bytes) e
+
+-- bytes that are 0 add nothing
+pub zeros_more : (hash_key bytes : List ℕ) (at n : ℕ) → ((k : ℕ) → k < n → get_or bytes (at + k) 0 ≡ 0)
+    → hash_of_first hash_key bytes (at + n) ≡ hash_of_first hash_key bytes at
+zeros_more hash_key bytes at zero none = let e : at + 0 ≡ at = omega arith in ap (hash_of_first hash_key bytes) e
+zeros_more hash_key bytes at (suc n) none =
+    let more : at + suc n ≡ (at + n) + 1 = omega arith in
+    let word : byte_word hash_key (at + n) (get_or bytes (at + n) 0) ≡ 0 =
+    ap (byte_word hash_key (at + n)) (none n (omega arith)) ∙ byte_word_zero hash_key (at + n) in
+    ap (hash_of_first hash_key bytes) more
+    ∙ hash_byte_more hash_key bytes (at + n)
+    ∙ ap (bit_xor (hash_of_first hash_key bytes (at + n))) word
+    ∙ xor_zero_r (hash_of_first hash_key bytes (at + n))
+    ∙ zeros_more hash_key bytes at n (λ k h. none k (omega arith))
+
+-- lists that agree in the first n bytes
+pub first_agree : (hash_key one two : List ℕ) (n : ℕ) → ((k : ℕ) → k < n → get_or one k 0 ≡ get_or two k 0)
+    → hash_of_first hash_key one n ≡ hash_of_first hash_key two n
+first_agree hash_key one two zero same = refl
+first_agree hash_key one two (suc n) same =
+    let more : suc n ≡ n + 1 = omega arith in
+    ap (hash_of_first hash_key one) more
+    ∙ hash_byte_more hash_key one n
+    ∙ ap₂ (λ h x. bit_xor h (byte_word hash_key n x)) (first_agree hash_key one two n (λ k h. same k (omega arith))) (same n (omega arith))
+    ∙ sym (ap (hash_of_first hash_key two) more ∙ hash_byte_more hash_key two n)
+
+pub first_sixteen : FirstSixteen
+first_sixteen hash_key bytes zeros =
+    let behind : length (drop 16 bytes) ≡ 32 = ap length zeros in
+    let long : length bytes ≡ 48 = omega (arith, length-drop 16 bytes) in
+    let front : length (take 16 bytes) ≡ 16 = length-take-le 16 bytes (omega (arith, long)) in
+    let none : (k : ℕ) → k < 32 → get_or bytes (16 + k) 0 ≡ 0 = λ k h.
+    sym (get_or-drop 16 bytes k 0) ∙ ap (λ xs. get_or xs k 0) zeros ∙ get_or-replicate 32 k 0 0 h in
+    sym (hash_all hash_key bytes 48 (sym long))
+    ∙ zeros_more hash_key bytes 16 32 none
+    ∙ first_agree hash_key bytes (take 16 bytes) 16 (λ k h. sym (get_or-take 16 bytes k 0 h))
+    ∙ hash_all hash_key (take 16 bytes) 16 (sym front)
 
 -- ---- ranges
 

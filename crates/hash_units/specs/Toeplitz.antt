@@ -30,6 +30,10 @@ hash_of hash_key bytes = xor_all (map (window hash_key) (filter (is_one bytes) (
 unfoldable pub byte_word : List ℕ → ℕ → ℕ → ℕ
 byte_word hash_key at x = xor_all (map (λ b. window hash_key (8 * at + b)) (filter (λ b. bit_at x (7 - b) == 1) (range_with_len 0 8)))
 
+-- the part of the hash that the bits of the first n bytes have
+abbrev pub hash_of_first : List ℕ → List ℕ → ℕ → ℕ
+hash_of_first hash_key bytes n = xor_all (map (window hash_key) (filter (is_one bytes) (range_with_len 0 (8 * n))))
+
 -- the hash that a row of a task uses
 abbrev pub row_hash_of : ℕ → ℕ → ℕ
 row_hash_of h row = rotate_left w32 h (8 * row)
