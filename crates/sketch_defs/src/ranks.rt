@@ -1,4 +1,4 @@
-//! What HyperLogLog tells of its cells.
+//! The tally of a HyperLogLog row, and the estimate that rests on it.
 ghost use Rattle.std.specs.Prelude.{◌≡◌, ◌+◌, ◌^◌, ◌<◌, ◌≤◌};
 ghost use Rattle.sketch_defs.specs.Answers.{zero_share, rank_share, alpha, raw_of};
 
@@ -41,7 +41,8 @@ pub fn raw_estimate(bits: u32, z: u128) -> u128
 {
     let square = 1u128 << (2 * bits + 33);
     let (over, under) = alpha(bits);
-    over * square / (under * z)
+    let dividend = over * square;
+    dividend / (under * z)
 }
 
 /// HyperLogLog's constant for 2^`bits` cells, as a fraction.
@@ -70,7 +71,7 @@ mod tests {
     use super::{Tally, raw_estimate, tally_add};
 
     #[test]
-    fn cells_are_told(rt: HostRuntime) {
+    fn cells_are_tallied(rt: HostRuntime) {
         // the last of 16 cells, all 0, and the last of 64, of which one holds 2
         let all_zero = Tally {
             zeros: 15,
@@ -85,11 +86,11 @@ mod tests {
             zeros: 63,
             z: 541_165_879_296,
         };
-        let one_told = Tally {
+        let one_more = Tally {
             zeros: 63,
             z: 543_313_362_944,
         };
-        assert_eq!(rt; tally_add(one_left, 2), one_told);
+        assert_eq!(rt; tally_add(one_left, 2), one_more);
     }
 
     #[test]

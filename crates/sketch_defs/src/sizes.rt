@@ -1,4 +1,4 @@
-//! The sizes that MRAC tells of its cells.
+//! The cells of MRAC in order, from which its sizes are read.
 ghost use Rattle.std.specs.Prelude.{◌≡◌};
 ghost use Rattle.std.specs.List.Sorted.{IsPermutation, IsSorted};
 ghost use Rattle.std.specs.Ordering.{nat_cmp};
