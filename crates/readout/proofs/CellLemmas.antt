@@ -1,5 +1,5 @@
 -- The lines of cells, one cell and one row after the other.
-use Rattle.std.proofs.Common.{◌≡◌, ℕ, suc, ◌+◌, ◌-◌, ◌^◌, ◌<◌, List, [], ◌++◌, length, map, drop, codes, Option, None, Some, IfSome, refl, ap, sym, ◌∙◌, subst, arith, add-one}
+use Rattle.std.proofs.Common.{◌≡◌, ℕ, suc, ◌+◌, ◌-◌, ◌^◌, ◌<◌, ◌==◌, true, List, [], ◌++◌, length, map, drop, codes, Option, None, Some, IfSome, refl, ap, sym, ◌∙◌, subst, arith, add-one, eq-eqb}
 use Rattle.std.specs.List.{flat_map, enumerate_from, range_with_len}
 use Rattle.std.proofs.Math.Seq.{drop-cons}
 use Rattle.std.proofs.lemmas.List.{append-nil, length-map, drop_all}
@@ -71,6 +71,19 @@ pub cell_unsent : (cells : Option Contents) (before : Option (List ℕ)) (piece 
 cell_unsent cells before piece start row side place index =
     told_all cells (CellCut before piece start row side place index before)
     (λ told. none_in_front before before (piece ++ cell_line start row index (register_at told side place index)) (stays_same before))
+
+start_unwritten : (start row index value : ℕ) → value ≡ start → cell_line start row index value ≡ []
+unfolding cell_line
+start_unwritten start row index value e = let t : (value == start) ≡ true = eq-eqb value start e in rw t refl
+
+-- a cell that is as it started puts nothing behind the piece
+pub cell_as_started : (cells : Option Contents) (before : Option (List ℕ)) (piece : List ℕ) (start row : ℕ) (side : Side) (place : Placed) (index value : ℕ)
+    → value ≡ start → IfSome cells (λ told. value ≡ register_at told side place index) → IfSome cells (CellPut before piece start row side place index piece before)
+cell_as_started cells before piece start row side place index value same is =
+    told_then cells (λ told. value ≡ register_at told side place index) (CellPut before piece start row side place index piece before)
+    (λ told p.
+    let none : cell_line start row index (register_at told side place index) ≡ [] = start_unwritten start row index (register_at told side place index) (sym p ∙ same) in
+    subst (λ all. CameSoFar before all piece before) (sym (ap (λ line. piece ++ line) none ∙ append-nil piece)) (put_behind before piece)) is
 
 pub row_start : (cells : Option Contents) (before : Option (List ℕ)) (piece : List ℕ) (start row size : ℕ) (side : Side) (place : Placed)
     → size ≡ 2 ^ (block_of side place).bits → IfSome cells (RowSoFar before piece start row side place piece 0 (size - 0) before)

@@ -1,10 +1,11 @@
 -- The live tasks of a switch with their places, and what registers tell of them.
-use Rattle.std.specs.Prelude.{◌≡◌, ℕ, ◌+◌, ◌^◌, ◌<◌, ◌≤◌, Bool, true, List, [], length, map, slice_index_or, replicate, Option, None, IfSome, option_map, unwrap_or, is_some}
-use Rattle.std.specs.List.{All, range_with_len, find}
+use Rattle.std.specs.Prelude.{◌≡◌, ℕ, ◌+◌, ◌^◌, ◌<◌, ◌≤◌, Bool, true, List, [], length, map, max, slice_index_or, replicate, Option, None, IfSome, option_map, unwrap_or, is_some}
+use Rattle.std.specs.List.{All, find, fold, range_with_len}
 use Rattle.std.specs.Str.{bytes_eq}
 use Rattle.addr_translate.specs.Blocks.{Block}
 use Rattle.addr_translate.specs.Geometry.{Geometry, array_count, bits_of}
 use Rattle.group_keys.specs.declared.uses.KeyUse.TheVariants.{Single}
+use Rattle.key_mask.specs.declared.fields.TheConstants.{KEY_BYTES}
 use Rattle.key_mask.specs.Keys.{no_lengths}
 use Rattle.pkt_headers.specs.declared.packets.Attr.TheVariants as attrs
 use Rattle.reg_file.specs.Registers.{Contents, Dims}
@@ -27,7 +28,7 @@ abbrev pub no_place : Placed
 no_place = record { array = 0; region = no_block; keys = Single 0; frozen = None }
 
 abbrev pub no_task : Sketch
-no_task = record { name = []; kind = Cms; rows = 0; key = no_lengths; attr = attrs.Packets; filter = record { value = replicate 16 0; mask = no_lengths }; size = 0 }
+no_task = record { name = []; kind = Cms; rows = 0; key = no_lengths; attr = attrs.Packets; filter = record { value = replicate KEY_BYTES 0; mask = no_lengths }; size = 0 }
 
 abbrev pub no_placed_task : PlacedTask
 no_placed_task = record { task = no_task; places = [] }
@@ -89,10 +90,14 @@ pub record IsPlacedTask (geometry : Geometry) (placed : PlacedTask) : Type 0 whe
 abbrev pub IsFit : Geometry → List PlacedTask → Type 0
 IsFit geometry tasks = All (IsPlacedTask geometry) tasks
 
--- the register file has the arrays of the geometry
+-- the bits of the largest array
+abbrev pub greatest_bits : Geometry → ℕ
+greatest_bits geometry = fold max 0 (map (λ g. g.bits) geometry.groups)
+
+-- the register file has the arrays of the geometry, each with room for the largest
 pub record IsShaped (geometry : Geometry) (dims : Dims) : Type 0 where
   pub arrays : dims.arrays ≡ array_count geometry
-  pub bits : (array : ℕ) → array < array_count geometry → bits_of geometry array ≡ dims.bits
+  pub bits : dims.bits ≡ greatest_bits geometry
 
 -- the register at an index of a row's partition
 abbrev pub register_at : Contents → Side → Placed → ℕ → ℕ

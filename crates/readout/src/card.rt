@@ -10,9 +10,9 @@ ghost use Rattle.readout.specs.Judging.{line_of_card};
 ghost use Rattle.readout.specs.Stops.{IsDeviceOf, IsStopOf};
 
 use crate::faults::ReadFault;
-use crate::finding::{bits_of, cell_count, first_place};
 use crate::lines::card_line;
 use crate::pieces::send_line;
+use crate::places::{bits_of, cell_count, first_place};
 use crate::views::{Side, TaskView};
 use fm_io::Sink;
 use reg_file::{DeviceFault, RegFile};

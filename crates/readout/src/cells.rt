@@ -9,9 +9,9 @@ ghost use Rattle.readout.specs.Judging.{head_of, lines_of_cells, side_size};
 ghost use Rattle.readout.specs.Stops.{IsStopOf};
 
 use crate::faults::ReadFault;
-use crate::finding::{cell_count, first_place, part_of, row_count};
 use crate::lines::{cell_line, head_line};
 use crate::pieces::{Piece, end_block, gather};
+use crate::places::{cell_count, first_place, part_of, row_count};
 use crate::views::{Side, TaskView};
 use fm_io::Sink;
 use key_mask::Line;
@@ -56,7 +56,8 @@ fn gather_cell<V: TaskView, R: RegFile, S: Sink>(
         (S.sent sink.new))) }
 {
     match view.cell(regs, source.task, source.side, row, index) {
-        Ok(value) => gather(sink, piece, &cell_line(source.start, row, index, value)),
+        Ok(value) if value == source.start => Ok(()),
+        Ok(value) => gather(sink, piece, cell_line(row, index, value).as_str()),
         Err(DeviceFault) => Err(ReadFault::Device),
     }
 }
@@ -185,7 +186,7 @@ pub(crate) fn send_cells<V: TaskView, R: RegFile, S: Sink>(
     };
     let rows = row_count(view.task(at));
     let mut piece = Piece::new();
-    match gather(sink, &mut piece, &head_of(view, at, side)) {
+    match gather(sink, &mut piece, head_of(view, at, side).as_str()) {
         Ok(()) => {}
         Err(fault) => return Err(fault),
     }

@@ -13,9 +13,9 @@ ghost use Rattle.readout.specs.Judging.{lines_of_dist};
 ghost use Rattle.readout.specs.Stops.{IsDeviceOf, IsWriteOf, IsStopOf};
 
 use crate::faults::ReadFault;
-use crate::finding::{cell_count, first_place};
 use crate::lines::{dist_line, size_line};
 use crate::pieces::{Piece, end_block, gather};
+use crate::places::{cell_count, first_place};
 use crate::views::{Side, TaskView};
 use fm_io::Sink;
 use reg_file::{DeviceFault, RegFile};
@@ -88,7 +88,7 @@ fn gather_sizes<S: Sink>(cells: &[u32], sink: &mut S, piece: &mut Piece) -> Resu
     let mut at = 0;
     'runs: while at < cells.len() {
         let count = run_length(cells, at);
-        match gather(sink, piece, &size_line(cells[at], count)) {
+        match gather(sink, piece, size_line(cells[at], count).as_str()) {
             Ok(()) => at += count,
             Err(fault) => return Err(fault),
         }
@@ -105,7 +105,7 @@ fn send_sizes<S: Sink>(name: &Name, cells: &[u32], sink: &mut S) -> Result<(), R
     ensures part { OnErr result (CameInPart (S.sent sink.old) (dist_lines name.now (sizes_of cells.now)) (S.sent sink.new)) }
 {
     let mut piece = Piece::new();
-    match gather(sink, &mut piece, &dist_line(name)) {
+    match gather(sink, &mut piece, dist_line(name).as_str()) {
         Ok(()) => {}
         Err(fault) => return Err(fault),
     }

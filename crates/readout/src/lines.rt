@@ -1,5 +1,5 @@
 //! The lines of read-outs.
-ghost use Rattle.std.specs.Prelude.{◌≡◌, ◌+◌, ◌≤◌, ◌++◌, length, codes};
+ghost use Rattle.std.specs.Prelude.{◌≡◌, ◌≢◌, ℕ, ◌+◌, ◌≤◌, ◌++◌, length, codes};
 ghost use Rattle.readout.specs.Lines.{side_word, head_line, cell_line, reply_text, query_line, size_line, card_line};
 
 use crate::views::Side;
@@ -35,15 +35,12 @@ fn side_word(side: Side) -> &'static str
     }
 }
 
-/// The line of a cell; none where it is as it started.
+/// The line of a cell that is not as it started.
 #[tactic(auto, unfolding(crate::specs::Lines::cell_line))]
-pub(crate) fn cell_line(start: u32, row: u32, index: u32, value: u32) -> Line
-    ensures { result.bytes ≡ cell_line start row index value }
+pub(crate) fn cell_line(row: u32, index: u32, value: u32) -> Line
+    ensures { (start : ℕ) → value ≢ start → result.bytes ≡ cell_line start row index value }
 {
     let mut line = Line::new();
-    if value == start {
-        return line;
-    }
     line.push_str("cell ");
     line.push_str(Buffer::new().format(row));
     line.push_str(" ");
@@ -121,14 +118,5 @@ pub(crate) fn card_line(name: &Name, zeros: u32, z: u128, raw: u128) -> Line
     line.push_str(" raw ");
     line.push_str(Buffer::new().format(raw));
     line.push_str("\n");
-    line
-}
-
-/// The line that ends a block.
-pub(crate) fn end_line() -> Line
-    ensures { result.bytes ≡ codes "end\n" }
-{
-    let mut line = Line::new();
-    line.push_str("end\n");
     line
 }

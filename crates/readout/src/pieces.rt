@@ -1,11 +1,10 @@
 //! Lines gathered into pieces, so that a sink gets a call for many of them.
-ghost use Rattle.std.specs.Prelude.{◌≡◌, ◌≤◌, [], ◌++◌, codes, OnOk, OnErr, IfErr};
+ghost use Rattle.std.specs.Prelude.{◌≡◌, ◌≤◌, [], ◌++◌, codes, length, OnOk, OnErr, IfErr};
 ghost use Rattle.outside.specs.Told.{Grows};
 ghost use Rattle.outside.specs.Sent.{CameSoFar, CameInPart};
 ghost use Rattle.readout.specs.Stops.{IsWriteOf};
 
 use crate::faults::ReadFault;
-use crate::lines::end_line;
 use arrayvec::ArrayString;
 use fm_io::{Sink, write_whole};
 use key_mask::Line;
@@ -17,19 +16,17 @@ const PIECE_BYTES: usize = 4096;
 pub(crate) type Piece = ArrayString<PIECE_BYTES>;
 
 /// Puts the line behind those of the piece, which is sent first where there is no room.
-pub(crate) fn gather<S: Sink>(sink: &mut S, piece: &mut Piece, line: &Line) -> Result<(), ReadFault>
+pub(crate) fn gather<S: Sink>(sink: &mut S, piece: &mut Piece, line: &str) -> Result<(), ReadFault>
+    requires { length line.now ≤ 512 }
     ensures later { S.faults sink.old ≤ S.faults sink.new }
     ensures cause { IfErr result (IsWriteOf (S.faults sink.old) (S.faults sink.new)) }
-    ensures sent { OnOk result (CameSoFar (S.sent sink.old) (piece.old.bytes ++ line.now.bytes) piece.new.bytes (S.sent sink.new)) }
-    ensures part { OnErr result (CameInPart (S.sent sink.old) (piece.old.bytes ++ line.now.bytes) (S.sent sink.new)) }
+    ensures sent { OnOk result (CameSoFar (S.sent sink.old) (piece.old.bytes ++ line.now) piece.new.bytes (S.sent sink.new)) }
+    ensures part { OnErr result (CameInPart (S.sent sink.old) (piece.old.bytes ++ line.now) (S.sent sink.new)) }
 {
     if piece.remaining_capacity() < line.len() {
-        match send_piece(sink, piece) {
-            Ok(()) => {}
-            Err(fault) => return Err(fault),
-        }
+        send_piece(sink, piece)?;
     }
-    piece.push_str(line.as_str());
+    piece.push_str(line);
     Ok(())
 }
 
@@ -41,13 +38,9 @@ pub(crate) fn send_piece<S: Sink>(sink: &mut S, piece: &mut Piece) -> Result<(),
     ensures sent { OnOk result (Grows (S.sent sink.old) piece.old.bytes (S.sent sink.new)) }
     ensures part { OnErr result (CameInPart (S.sent sink.old) piece.old.bytes (S.sent sink.new)) }
 {
-    match write_whole(sink, piece.as_str().as_bytes()) {
-        Ok(()) => {
-            piece.clear();
-            Ok(())
-        }
-        Err(_) => Err(ReadFault::Write),
-    }
+    write_whole(sink, piece.as_str().as_bytes()).map_err(|_| ReadFault::Write)?;
+    piece.clear();
+    Ok(())
 }
 
 /// Ends the block: sends what the piece holds, and the line that ends it.
@@ -57,7 +50,7 @@ pub(crate) fn end_block<S: Sink>(sink: &mut S, piece: &mut Piece) -> Result<(), 
     ensures sent { OnOk result (Grows (S.sent sink.old) (piece.old.bytes ++ codes "end\n") (S.sent sink.new)) }
     ensures part { OnErr result (CameInPart (S.sent sink.old) (piece.old.bytes ++ codes "end\n") (S.sent sink.new)) }
 {
-    match gather(sink, piece, &end_line()) {
+    match gather(sink, piece, "end\n") {
         Ok(()) => send_piece(sink, piece),
         Err(fault) => Err(fault),
     }
@@ -70,8 +63,5 @@ pub(crate) fn send_line<S: Sink>(sink: &mut S, line: &Line) -> Result<(), ReadFa
     ensures sent { OnOk result (Grows (S.sent sink.old) line.now.bytes (S.sent sink.new)) }
     ensures part { OnErr result (CameInPart (S.sent sink.old) line.now.bytes (S.sent sink.new)) }
 {
-    match write_whole(sink, line.as_str().as_bytes()) {
-        Ok(()) => Ok(()),
-        Err(_) => Err(ReadFault::Write),
-    }
+    write_whole(sink, line.as_str().as_bytes()).map_err(|_| ReadFault::Write)
 }

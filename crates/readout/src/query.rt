@@ -11,9 +11,9 @@ ghost use Rattle.readout.specs.Judging.{answers_keys, line_of_query};
 ghost use Rattle.readout.specs.Stops.{IsDeviceOf, IsStopOf};
 
 use crate::faults::ReadFault;
-use crate::finding::{bits_of, row_count};
 use crate::lines::query_line;
 use crate::pieces::send_line;
+use crate::places::{bits_of, row_count};
 use crate::views::{Side, TaskView};
 use addr_translate::index;
 use arrayvec::ArrayVec;

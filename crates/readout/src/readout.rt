@@ -11,7 +11,7 @@ use crate::card::send_card;
 use crate::cells::send_cells;
 use crate::dist::send_dist;
 use crate::faults::ReadFault;
-use crate::finding::{judge_card, judge_cells, judge_dist, judge_query};
+use crate::judging::{judge_card, judge_cells, judge_dist, judge_query};
 use crate::query::send_query;
 use crate::views::{Side, TaskView};
 use fm_io::Sink;
@@ -76,10 +76,8 @@ impl Readout {
         ensures contents { Stays (R.contents regs.old) (R.contents regs.new) }
         ensures calls { Stays (R.calls regs.old) (R.calls regs.new) }
     {
-        match judge_cells(view, name, side) {
-            Ok(at) => send_cells(view, regs, at, side, sink),
-            Err(fault) => Err(fault),
-        }
+        let at = judge_cells(view, name, side)?;
+        send_cells(view, regs, at, side, sink)
     }
 
     /// Tells what a task answers for a key value, which has the fields of the task's key. One cell
@@ -108,10 +106,8 @@ impl Readout {
         ensures contents { Stays (R.contents regs.old) (R.contents regs.new) }
         ensures calls { Stays (R.calls regs.old) (R.calls regs.new) }
     {
-        match judge_query(view, name, at) {
-            Ok(number) => send_query(view, regs, hash_key, number, at, sink),
-            Err(fault) => Err(fault),
-        }
+        let number = judge_query(view, name, at)?;
+        send_query(view, regs, hash_key, number, at, sink)
     }
 
     /// Tells the estimate of a task that counts distinct keys, with what it rests on.
@@ -137,10 +133,8 @@ impl Readout {
         ensures contents { Stays (R.contents regs.old) (R.contents regs.new) }
         ensures calls { Stays (R.calls regs.old) (R.calls regs.new) }
     {
-        match judge_card(view, name) {
-            Ok(at) => send_card(view, regs, at, sink),
-            Err(fault) => Err(fault),
-        }
+        let at = judge_card(view, name)?;
+        send_card(view, regs, at, sink)
     }
 
     /// Tells each value among the cells of a task of one row, with the number of cells that hold
@@ -169,9 +163,7 @@ impl Readout {
         ensures calls { Stays (R.calls regs.old) (R.calls regs.new) }
         ensures room { self.new ≡ self.old }
     {
-        match judge_dist(view, name) {
-            Ok(at) => send_dist(view, regs, at, &mut self.cells, sink),
-            Err(fault) => Err(fault),
-        }
+        let at = judge_dist(view, name)?;
+        send_dist(view, regs, at, &mut self.cells, sink)
     }
 }

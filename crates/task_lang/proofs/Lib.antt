@@ -1,3 +1,5 @@
+pub mod CanonicalLemmas
+pub mod NumberLemmas
 pub mod PrintLemmas
 pub mod ReadLemmas
 pub mod TokenLemmas

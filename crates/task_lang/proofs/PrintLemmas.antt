@@ -1,14 +1,17 @@
 -- What is printed of a command, and how it is read again.
-use Rattle.std.proofs.Common.{◌≡◌, ◌≢◌, ℕ, ◌+◌, ◌*◌, ◌/◌, ◌%◌, ◌^◌, ◌<◌, ◌≤◌, ◌==◌, ◌&&◌, Bool, true, false, not, cond, nat_lt, nat_le, if◌then◌else◌, List, [], ◌∷◌, ◌++◌, length, slice_index, codes, Option, None, Some, Result, Ok, Err, IsTrue, refl, ap, sym, ◌∙◌, arith, length-append}
+use Rattle.std.proofs.Common.{◌≡◌, ◌≢◌, ℕ, ◌+◌, ◌*◌, ◌/◌, ◌%◌, ◌^◌, ◌<◌, ◌≤◌, ◌==◌, ◌&&◌, Bool, true, false, not, cond, nat_lt, nat_le, if◌then◌else◌, List, [], ◌∷◌, ◌++◌, length, slice_index, codes, Option, None, Some, Result, Ok, IsTrue, get_or, refl, ap, subst, sym, ◌∙◌, arith, length-append, ⊎_elim}
 use Rattle.std.specs.List.{join_with_byte, list_all}
 use Rattle.std.specs.Fmt.{decimal}
 use Rattle.std.specs.Str.{bytes_eq}
 use Rattle.std.proofs.Math.Seq.{take-append_seam, drop-append_seam}
-use Rattle.std.proofs.lemmas.Bool.{false≢true}
+use Rattle.std.proofs.lemmas.Bool.{cases_eq, false≢true}
 use Rattle.std.proofs.lemmas.Bool.Decides.{nat_tests}
-use Rattle.std.proofs.lemmas.Fmt.{decimal_nonempty, length-decimal-le}
+use Rattle.std.proofs.lemmas.Fmt.{decimal_digit, decimal_nonempty, first_decimal, length-decimal-le}
 use Rattle.std.proofs.lemmas.List.Elements.{All-get_or}
 use Rattle.std.proofs.lemmas.Slice.Eq.{bytes_eq-Decides}
+use Rattle.texts.specs.Words.{words}
+use Rattle.texts.proofs.WordLemmas.{words_joined}
+use Rattle.key_mask.specs.declared.keys.FieldFault.{FieldFault}
 use Rattle.key_mask.specs.declared.fields.Field.{Field}
 use Rattle.key_mask.specs.declared.fields.Field.TheVariants.{SrcIp, DstIp, SrcPort, DstPort, Proto, Tos, EtherType}
 use Rattle.key_mask.specs.Fields.{fields, field_number, is_address, name_of}
@@ -28,13 +31,12 @@ use Rattle.task_filters.specs.Terms.{filter_in, terms_in, with_term}
 use Rattle.task_filters.proofs.PrintLemmas.{number_again}
 use Rattle.task_lang.specs.declared.commands.Command.{Command}
 use Rattle.task_lang.specs.declared.commands.Command.TheVariants as commands
-use Rattle.task_lang.specs.declared.commands.ScriptFault.{ScriptFault}
-use Rattle.task_lang.specs.declared.script.TheConstants.{SCRIPT_LIMIT}
-use Rattle.task_lang.specs.Printing.{command_text, command_words, IsCommand, IsFilter, IsTask}
-use Rattle.task_lang.specs.Script.{add_in, alone_in, command_in, is_skipped, named_in, packets_in, query_in, resize_in, script_in}
-use Rattle.task_lang.specs.Words.{attr_in, attr_named, attr_word, behind_label, full_number, kind_named, kind_word, name_in, rows_in, verb_named}
+use Rattle.task_lang.specs.Canonical.{AreTaskOperands, HasCanonicalOperands, IsBehind, IsCanonical, IsCanonicalFilter, IsCanonicalKey, IsCanonicalNumber, is_printed}
+use Rattle.task_lang.specs.Printing.{command_text, command_words, task_text, IsCommand, IsFilter, IsKey, IsTask}
+use Rattle.task_lang.specs.Script.{add_in, alone_in, command_in, is_skipped, named_in, packets_in, query_in, resize_in, script_in, script_limit}
+use Rattle.task_lang.specs.Words.{attr_in, attr_named, attr_word, after_label, full_number, kind_named, kind_word, name_in, rows_in, verb_named}
 use Rattle.sketch_defs.proofs.NameLemmas.{name_short}
-use Rattle.task_lang.proofs.TokenLemmas.{all_append, all_joined, decimal_graph, each_true, is_graph, is_token, name_token, token_from, tokens_read}
+use Rattle.task_lang.proofs.TokenLemmas.{all_append, all_joined, decimal_graph, each_true, is_graph, is_token, name_token, token_from, tokens_printed, tokens_read, tokens_words}
 
 -- ---- what a task that there is has
 
@@ -106,12 +108,11 @@ rows_again : (kind : Kind) (rows : ℕ) → allows_rows kind rows ≡ true → r
 unfolding rows_in
 rows_again kind rows fits = rw (full_again rows (rows_small kind rows fits), fits) refl
 
-label_again : (label rest : List ℕ) → behind_label label (label ++ rest) ≡ Some rest
-unfolding behind_label
+label_again : (label rest : List ℕ) → after_label label (label ++ rest) ≡ Some rest
+unfolding after_label
 label_again label rest =
-    let within : nat_le (length label) (length (label ++ rest)) ≡ true = grind (arith, nat_tests, length-append label rest) in
     let same : bytes_eq label label ≡ true = (bytes_eq-Decides label label).1 refl in
-    rw (within, take-append_seam label rest, drop-append_seam label rest, same) refl
+    rw (take-append_seam label rest, drop-append_seam label rest, same) refl
 
 name_again : (name : List ℕ) → IsTrue (is_name name) → name_in name ≡ Some name
 name_again name named = rw named refl
@@ -254,7 +255,7 @@ add_read task known =
       name_again task.name known.named,
       kind_again task.kind,
       rows_again task.kind task.rows parts.0,
-      known.key,
+      known.key.again,
       allowed_again task.kind task.attr parts.1.1,
       known.filter.again,
       full_again task.size known.size,
@@ -336,7 +337,7 @@ attr_short attrs.Flow = omega arith
 decimal_short : (n : ℕ) → n < 2 ^ 32 → length (decimal n) ≤ 10
 decimal_short n small = length-decimal-le 10 n (omega arith) (omega arith) (omega arith)
 
-add_short : (task : Sketch) → IsTask task → length (join_with_byte 32 (command_words (commands.Add task))) ≤ SCRIPT_LIMIT
+add_short : (task : Sketch) → IsTask task → length (join_with_byte 32 (command_words (commands.Add task))) ≤ script_limit
 add_short task known =
     simp length-append (omega (
       arith,
@@ -344,12 +345,12 @@ add_short task known =
       kind_short task.kind,
       attr_short task.attr,
       decimal_short task.rows (rows_small task.kind task.rows (task_parts task known.allowed).0),
-      known.short,
+      known.key.short,
       known.filter.short,
       decimal_short task.size known.size,
     ))
 
-words_short : (command : Command) → IsCommand command → length (join_with_byte 32 (command_words command)) ≤ SCRIPT_LIMIT
+words_short : (command : Command) → IsCommand command → length (join_with_byte 32 (command_words command)) ≤ script_limit
 words_short (commands.Add task) known = add_short task known
 words_short (commands.Resize name size) known = simp length-append (omega (arith, name_short name known.0, decimal_short size known.1))
 words_short (commands.Remove name) named = omega (arith, name_short name named)
@@ -371,12 +372,76 @@ command_again command known =
     let read = words_read command known in
     tokens_read (command_words command) command read.0 (begun command) read.1 (words_short command known)
 
-abbrev first_of : Result (List Command) ScriptFault → Command → Command
-first_of (Ok (command ∷ commands)) other = command
-first_of (Ok []) other = other
-first_of (Err fault) other = other
+-- ---- the texts are canonical
 
--- two commands that are printed alike are one
-pub text_tells : (one two : Command) → IsCommand one → IsCommand two → command_text one ≡ command_text two → one ≡ two
-text_tells one two known also same =
-    ap (λ read. first_of read one) (sym (command_again one known) ∙ ap script_in same ∙ command_again two also)
+number_first : (n : ℕ) → n < 2 ^ 32 → IsCanonicalNumber (decimal n)
+number_first n small =
+    ⊎_elim
+    (λ (zero : n ≡ 0). rw (zero, decimal_digit 0 (omega arith)) refl)
+    (λ (some : n ≢ 0).
+    let front : 48 < get_or (decimal n) 0 0 = first_decimal n (omega (arith, some)) (omega arith) in
+    grind (arith, nat_tests, front))
+    (cases_eq n 0)
+
+same_key : (key mask : List ℕ) → ◌≡◌ {A = Result (List ℕ) FieldFault} (Ok key) (Ok mask) → key ≡ mask
+same_key key mask e = cc
+
+same_filter : (pattern other : Pattern) → ◌≡◌ {A = Result Pattern FieldFault} (Ok pattern) (Ok other) → pattern ≡ other
+same_filter pattern other e = cc
+
+behind_label : (label rest : List ℕ) (P : List ℕ → Type 0) → P rest → IsBehind label P (label ++ rest)
+behind_label label rest P canonical = rw (label_again label rest) canonical
+
+key_canonical : (key : List ℕ) → IsKey key → IsCanonicalKey (key_text key)
+key_canonical key known mask read = ap key_text (same_key key mask (sym known.again ∙ read))
+
+filter_canonical : (pattern : Pattern) → IsFilter pattern → IsCanonicalFilter (filter_text pattern)
+filter_canonical pattern known other read = ap filter_text (same_filter pattern other (sym known.again ∙ read))
+
+task_operands : (task : Sketch) → IsTask task → AreTaskOperands (command_words (commands.Add task))
+task_operands task known = record {
+  rows = number_first task.rows (rows_small task.kind task.rows (task_parts task known.allowed).0);
+  key = behind_label (codes "key=") (key_text task.key) IsCanonicalKey (key_canonical task.key known.key);
+  filter = behind_label (codes "filter=") (filter_text task.filter) IsCanonicalFilter (filter_canonical task.filter known.filter);
+  memory = behind_label (codes "memory=") (decimal task.size) IsCanonicalNumber (number_first task.size known.size);
+}
+
+words_canonical : (command : Command) → IsCommand command → HasCanonicalOperands (command_words command)
+unfolding verb_named
+words_canonical (commands.Add task) known = task_operands task known
+words_canonical (commands.Resize name size) known =
+    behind_label (codes "memory=") (decimal size) IsCanonicalNumber (number_first size known.1)
+words_canonical (commands.Remove name) named = tt
+words_canonical (commands.Release name) named = tt
+words_canonical (commands.Packets number) small = number_first number small
+words_canonical commands.Run known = tt
+words_canonical (commands.Read name) named = tt
+words_canonical (commands.Frozen name) named = tt
+words_canonical (commands.Query name at) known = filter_canonical at known.1
+words_canonical (commands.Dist name) named = tt
+words_canonical (commands.Card name) named = tt
+words_canonical commands.Show known = tt
+words_canonical commands.Stat known = tt
+
+-- what is printed of a command is canonical
+pub command_canonical : (command : Command) → IsCommand command → IsCanonical (command_text command)
+unfolding command_text
+command_canonical command known =
+    let tokens = (words_read command known).0 in
+    let split : words (join_with_byte 32 (command_words command)) ≡ command_words command = words_joined (command_words command) (tokens_words (command_words command) tokens) in
+    record {
+      printed = all_joined is_printed 32 refl (command_words command) (tokens_printed (command_words command) tokens);
+      spaced = ap (join_with_byte 32) split;
+      operands = subst (λ ws. HasCanonicalOperands ws) (sym split) (words_canonical command known);
+    }
+
+-- behind `add ` stands the text of a task
+task_behind : (task : Sketch) → codes "add " ++ task_text task ≡ command_text (commands.Add task)
+unfolding task_text command_text
+task_behind task = refl
+
+pub task_again : (task : Sketch) → IsTask task → script_in (codes "add " ++ task_text task) ≡ Ok (commands.Add task ∷ [])
+task_again task known = ap script_in (task_behind task) ∙ command_again (commands.Add task) known
+
+pub task_canonical : (task : Sketch) → IsTask task → IsCanonical (codes "add " ++ task_text task)
+task_canonical task known = subst (λ text. IsCanonical text) (sym (task_behind task)) (command_canonical (commands.Add task) known)

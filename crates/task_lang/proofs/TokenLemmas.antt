@@ -13,8 +13,8 @@ use Rattle.key_mask.proofs.PrintLemmas.{each_below}
 use Rattle.sketch_defs.proofs.NameLemmas.{name_parts}
 use Rattle.sketch_defs.specs.Names.{is_name, is_name_byte, starts_low}
 use Rattle.task_lang.specs.declared.commands.Command.{Command}
-use Rattle.task_lang.specs.declared.script.TheConstants.{SCRIPT_LIMIT}
-use Rattle.task_lang.specs.Script.{command_in, is_allowed, is_skipped, line_in, one, plain_line_in, script_in}
+use Rattle.task_lang.specs.Canonical.{is_printed}
+use Rattle.task_lang.specs.Script.{command_in, is_allowed, is_skipped, line_in, one, plain_line_in, script_in, script_limit}
 
 -- a byte that prints and is no blank
 abbrev pub is_graph : ℕ → Bool
@@ -23,10 +23,6 @@ is_graph byte = nat_le 33 byte && nat_le byte 126
 -- some bytes that print, and no blank among them
 abbrev pub is_token : List ℕ → Bool
 is_token word = list_all is_graph word && nat_lt 0 (length word)
-
--- a byte that prints, or a space
-abbrev pub is_printed : ℕ → Bool
-is_printed byte = nat_le 32 byte && nat_le byte 126
 
 -- ---- tests of lists
 
@@ -94,14 +90,14 @@ token_from byte rest e =
     let some : nat_lt 0 (suc (length rest)) ≡ true = grind (arith, nat_tests) in
     rw (e, some) refl
 
-tokens_printed : (words : List (List ℕ)) → list_all is_token words ≡ true → list_all (list_all is_printed) words ≡ true
+pub tokens_printed : (words : List (List ℕ)) → list_all is_token words ≡ true → list_all (list_all is_printed) words ≡ true
 tokens_printed [] e = refl
 tokens_printed (word ∷ words) e =
     let both = each_true (is_token word) (list_all is_token words) e in
     let graph = (each_true (list_all is_graph word) (nat_lt 0 (length word)) both.0).0 in
     rw (all_weaker is_graph is_printed (λ c t. grind (arith, nat_tests, t)) word graph) (tokens_printed words both.1)
 
-tokens_words : (words : List (List ℕ)) → list_all is_token words ≡ true → list_all is_word words ≡ true
+pub tokens_words : (words : List (List ℕ)) → list_all is_token words ≡ true → list_all is_word words ≡ true
 tokens_words [] e = refl
 tokens_words (word ∷ words) e =
     let both = each_true (is_token word) (list_all is_token words) e in
@@ -109,7 +105,7 @@ tokens_words (word ∷ words) e =
     let free : free_of is_blank word ≡ true = all_weaker is_graph (λ c. not (is_blank c)) (λ c t. grind (arith, nat_tests, t)) word parts.0 in
     rw (free, parts.1) (tokens_words words both.1)
 
-no_return : (line : List ℕ) → list_all is_printed line ≡ true → strip_carriage_return line ≡ line
+pub no_return : (line : List ℕ) → list_all is_printed line ≡ true → strip_carriage_return line ≡ line
 no_return line e =
     let last : (slice_index line (length line - 1) == 13) ≡ false =
     at_each is_printed (λ c. (c == 13) ≡ false) (λ c t. grind (arith, nat_tests, t)) refl line e (length line - 1) in
@@ -126,11 +122,11 @@ line_read words tokens begun =
 
 -- one line of tokens is a script of one command
 pub tokens_read : (words : List (List ℕ)) (command : Command) → list_all is_token words ≡ true → is_skipped (join_with_byte 32 words) ≡ false
-    → command_in words ≡ Ok command → length (join_with_byte 32 words) ≤ SCRIPT_LIMIT → script_in (join_with_byte 32 words) ≡ Ok (command ∷ [])
+    → command_in words ≡ Ok command → length (join_with_byte 32 words) ≤ script_limit → script_in (join_with_byte 32 words) ≡ Ok (command ∷ [])
 unfolding script_in
 tokens_read words command tokens begun read fits =
     let line : List ℕ = join_with_byte 32 words in
     let printed : list_all is_printed line ≡ true = all_joined is_printed 32 refl words (tokens_printed words tokens) in
     let free : free_of (λ b. b == 10) line ≡ true = all_weaker is_printed (λ c. not (c == 10)) (λ c t. grind (arith, nat_tests, t)) line printed in
-    let short : nat_lt SCRIPT_LIMIT (length line) ≡ false = grind (arith, nat_tests, fits) in
+    let short : nat_lt script_limit (length line) ≡ false = grind (arith, nat_tests, fits) in
     rw (short, split_last (λ b. b == 10) line free, line_read words tokens begun, read) refl

@@ -1,3 +1,5 @@
+pub mod Canonical
+pub mod Laws
 pub mod Printing
 pub mod Reading
 pub mod Script

@@ -1,16 +1,18 @@
 -- Commands as they are printed: one canonical text for each.
-use Rattle.std.specs.Prelude.{◌≡◌, ℕ, ◌<◌, ◌≤◌, ◌^◌, IsTrue, List, [], ◌∷◌, ◌++◌, length, None, Ok, codes}
+use Rattle.std.specs.Prelude.{◌≡◌, ℕ, ◌+◌, ◌<◌, ◌≤◌, ◌^◌, IsTrue, List, [], ◌∷◌, ◌++◌, length, None, Ok, codes}
 use Rattle.std.specs.List.{join_with_byte}
 use Rattle.std.specs.Fmt.{decimal}
 use Rattle.key_mask.specs.Keys.{key_in, key_text}
 use Rattle.task_filters.specs.Filters.{IsVector, Pattern}
 use Rattle.task_filters.specs.Printing.{filter_text}
 use Rattle.task_filters.specs.Terms.{filter_in}
+use Rattle.sketch_defs.specs.declared.names.TheConstants.{NAME_BYTES}
 use Rattle.sketch_defs.specs.Names.{is_name}
 use Rattle.sketch_defs.specs.Tasks.{Sketch, first_fault}
 use Rattle.task_lang.specs.declared.commands.Command.{Command}
 use Rattle.task_lang.specs.declared.commands.Command.TheVariants as commands
-use Rattle.task_lang.specs.Words.{kind_word, attr_word}
+use Rattle.task_lang.specs.declared.commands.Verb.TheVariants as verbs
+use Rattle.task_lang.specs.Words.{verb_word, kind_word, attr_word}
 
 -- the words behind `add`
 abbrev pub task_words : Sketch → List (List ℕ)
@@ -19,19 +21,19 @@ task_words task =
     ∷ (codes "filter=" ++ filter_text task.filter) ∷ (codes "memory=" ++ decimal task.size) ∷ []
 
 abbrev pub command_words : Command → List (List ℕ)
-command_words (commands.Add task) = codes "add" ∷ task_words task
-command_words (commands.Resize name size) = codes "resize" ∷ name ∷ (codes "memory=" ++ decimal size) ∷ []
-command_words (commands.Remove name) = codes "remove" ∷ name ∷ []
-command_words (commands.Release name) = codes "release" ∷ name ∷ []
-command_words (commands.Packets number) = codes "packets" ∷ decimal number ∷ []
-command_words commands.Run = codes "run" ∷ []
-command_words (commands.Read name) = codes "read" ∷ name ∷ []
-command_words (commands.Frozen name) = codes "frozen" ∷ name ∷ []
-command_words (commands.Query name at) = codes "query" ∷ name ∷ filter_text at ∷ []
-command_words (commands.Dist name) = codes "dist" ∷ name ∷ []
-command_words (commands.Card name) = codes "card" ∷ name ∷ []
-command_words commands.Show = codes "show" ∷ []
-command_words commands.Stat = codes "stat" ∷ []
+command_words (commands.Add task) = verb_word verbs.Add ∷ task_words task
+command_words (commands.Resize name size) = verb_word verbs.Resize ∷ name ∷ (codes "memory=" ++ decimal size) ∷ []
+command_words (commands.Remove name) = verb_word verbs.Remove ∷ name ∷ []
+command_words (commands.Release name) = verb_word verbs.Release ∷ name ∷ []
+command_words (commands.Packets number) = verb_word verbs.Packets ∷ decimal number ∷ []
+command_words commands.Run = verb_word verbs.Run ∷ []
+command_words (commands.Read name) = verb_word verbs.Read ∷ name ∷ []
+command_words (commands.Frozen name) = verb_word verbs.Frozen ∷ name ∷ []
+command_words (commands.Query name at) = verb_word verbs.Query ∷ name ∷ filter_text at ∷ []
+command_words (commands.Dist name) = verb_word verbs.Dist ∷ name ∷ []
+command_words (commands.Card name) = verb_word verbs.Card ∷ name ∷ []
+command_words commands.Show = verb_word verbs.Show ∷ []
+command_words commands.Stat = verb_word verbs.Stat ∷ []
 
 -- the one canonical text of a task
 unfoldable pub task_text : Sketch → List ℕ
@@ -41,18 +43,41 @@ task_text task = join_with_byte 32 (task_words task)
 unfoldable pub command_text : Command → List ℕ
 command_text command = join_with_byte 32 (command_words command)
 
+-- how many bytes a key and a filter have at most
+abbrev pub longest_key : ℕ
+longest_key = 98
+
+abbrev pub longest_filter : ℕ
+longest_filter = 210
+
+-- how many bytes a name, a kind and a number of rows have at most, with a space before each but the name
+abbrev pub longest_front : ℕ
+longest_front = NAME_BYTES + (1 + 9) + (1 + 10)
+
+-- how many bytes a key, an attribute, a filter and a size have at most, each behind a space and its label
+abbrev pub longest_labelled : ℕ
+longest_labelled = (5 + longest_key) + (6 + 7) + (8 + longest_filter) + (8 + 10)
+
+-- how many bytes the text of a task has at most
+abbrev pub longest_task : ℕ
+longest_task = longest_front + longest_labelled
+
+-- a key that is read again from its text
+pub record IsKey (key : List ℕ) : Type 0 where
+  pub again : key_in (key_text key) ≡ Ok key
+  pub short : length (key_text key) ≤ longest_key
+
 -- a filter that is read again from its text
 pub record IsFilter (pattern : Pattern) : Type 0 where
   pub bytes : IsVector pattern.value
-  pub short : length (filter_text pattern) ≤ 210
   pub again : filter_in (filter_text pattern) ≡ Ok pattern
+  pub short : length (filter_text pattern) ≤ longest_filter
 
--- a task that a text can write: its key and its filter are read again from their texts
+-- a task that a text can write
 pub record IsTask (task : Sketch) : Type 0 where
   pub named : IsTrue (is_name task.name)
   pub allowed : first_fault task ≡ None
-  pub key : key_in (key_text task.key) ≡ Ok task.key
-  pub short : length (key_text task.key) ≤ 98
+  pub key : IsKey task.key
   pub filter : IsFilter task.filter
   pub size : task.size < 2 ^ 32
 
@@ -71,7 +96,3 @@ IsCommand (commands.Dist name) = IsTrue (is_name name)
 IsCommand (commands.Card name) = IsTrue (is_name name)
 IsCommand commands.Show = Unit {0}
 IsCommand commands.Stat = Unit {0}
-
--- two commands with one canonical text are the same
-abbrev pub TextsTell : Type 0
-TextsTell = (one two : Command) → IsCommand one → IsCommand two → command_text one ≡ command_text two → one ≡ two

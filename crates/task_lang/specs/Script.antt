@@ -7,7 +7,6 @@ use Rattle.texts.specs.Words.{is_blank, words, word_at}
 use Rattle.key_mask.specs.declared.keys.FieldFault.{FieldFault}
 use Rattle.key_mask.specs.Keys.{◌>>=◌, key_in}
 use Rattle.task_filters.specs.Terms.{filter_in}
-use Rattle.task_lang.specs.declared.script.TheConstants.{SCRIPT_LIMIT}
 use Rattle.task_lang.specs.declared.commands.Command.{Command}
 use Rattle.task_lang.specs.declared.commands.Command.TheVariants as commands
 use Rattle.task_lang.specs.declared.commands.LineFault.{LineFault}
@@ -15,7 +14,7 @@ use Rattle.task_lang.specs.declared.commands.LineFault.TheVariants as faults
 use Rattle.task_lang.specs.declared.commands.ScriptFault.{ScriptFault}
 use Rattle.task_lang.specs.declared.commands.Verb.{Verb}
 use Rattle.task_lang.specs.declared.commands.Verb.TheVariants as verbs
-use Rattle.task_lang.specs.Words.{verb_named, kind_named, full_number, name_in, rows_in, attr_in, behind_label}
+use Rattle.task_lang.specs.Words.{verb_named, kind_named, full_number, name_in, rows_in, attr_in, after_label}
 
 abbrev pub or_fault : {A : Type 0} → (FieldFault → LineFault) → Result A FieldFault → Result A LineFault
 or_fault fault (Ok found) = Ok found
@@ -29,10 +28,10 @@ counted count ws = if length ws == count then Ok ws else Err faults.Words
 unfoldable pub add_in : List (List ℕ) → Result Command LineFault
 add_in given = do
   ws ← counted 8 given
-  key ← ok_or (behind_label (codes "key=") (word_at ws 4)) faults.Words
-  attr ← ok_or (behind_label (codes "attr=") (word_at ws 5)) faults.Words
-  filter ← ok_or (behind_label (codes "filter=") (word_at ws 6)) faults.Words
-  memory ← ok_or (behind_label (codes "memory=") (word_at ws 7)) faults.Words
+  key ← ok_or (after_label (codes "key=") (word_at ws 4)) faults.Words
+  attr ← ok_or (after_label (codes "attr=") (word_at ws 5)) faults.Words
+  filter ← ok_or (after_label (codes "filter=") (word_at ws 6)) faults.Words
+  memory ← ok_or (after_label (codes "memory=") (word_at ws 7)) faults.Words
   name ← ok_or (name_in (word_at ws 1)) faults.Name
   kind ← ok_or (kind_named (word_at ws 2)) faults.Kind
   rows ← ok_or (rows_in kind (word_at ws 3)) faults.Rows
@@ -46,7 +45,7 @@ add_in given = do
 unfoldable pub resize_in : List (List ℕ) → Result Command LineFault
 resize_in given = do
   ws ← counted 3 given
-  memory ← ok_or (behind_label (codes "memory=") (word_at ws 2)) faults.Words
+  memory ← ok_or (after_label (codes "memory=") (word_at ws 2)) faults.Words
   name ← ok_or (name_in (word_at ws 1)) faults.Name
   size ← ok_or (full_number memory) faults.Size
   Ok (commands.Resize name size)
@@ -136,6 +135,12 @@ abbrev pub script_from : ℕ → List (List ℕ) → Result (List Command) Scrip
 script_from number [] = Ok []
 script_from number (line ∷ lines) = at_line number (line_in line) >>= λ found. with_front found (script_from (number + 1) lines)
 
+-- the most bytes of a script
+abbrev pub script_limit : ℕ
+script_limit = 1048576
+
 -- the commands of a script, or its first fault
 unfoldable pub script_in : List ℕ → Result (List Command) ScriptFault
-script_in text = if nat_lt SCRIPT_LIMIT (length text) then Err (record { line = 0; kind = faults.TooLong }) else script_from 1 (parts 10 text)
+script_in text =
+    if nat_lt script_limit (length text) then Err (record { line = 0; kind = faults.TooLong })
+    else script_from 1 (parts 10 text)

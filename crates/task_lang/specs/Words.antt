@@ -1,5 +1,6 @@
 -- The words of a command: names, kinds, numbers and attributes.
-use Rattle.std.specs.Prelude.{ℕ, ◌&&◌, nat_le, if◌then◌else◌, List, length, take, drop, codes, Option, None, Some, option_and_then}
+use Rattle.std.specs.Prelude.{ℕ, if◌then◌else◌, List, [], ◌∷◌, length, take, drop, codes, Option, None, Some, option_and_then}
+use Rattle.std.specs.List.{find}
 use Rattle.std.specs.Str.{bytes_eq}
 use Rattle.key_mask.specs.Numbers.{number_in}
 use Rattle.pkt_headers.specs.declared.packets.Attr.{Attr}
@@ -27,23 +28,16 @@ verb_word verbs.Card = codes "card"
 verb_word verbs.Show = codes "show"
 verb_word verbs.Stat = codes "stat"
 
-unfoldable pub verb_named : List ℕ → Option Verb
-verb_named word =
-    if bytes_eq word (codes "add") then Some verbs.Add
-    else (if bytes_eq word (codes "resize") then Some verbs.Resize
-    else (if bytes_eq word (codes "remove") then Some verbs.Remove
-    else (if bytes_eq word (codes "release") then Some verbs.Release
-    else (if bytes_eq word (codes "packets") then Some verbs.Packets
-    else (if bytes_eq word (codes "run") then Some verbs.Run
-    else (if bytes_eq word (codes "read") then Some verbs.Read
-    else (if bytes_eq word (codes "frozen") then Some verbs.Frozen
-    else (if bytes_eq word (codes "query") then Some verbs.Query
-    else (if bytes_eq word (codes "dist") then Some verbs.Dist
-    else (if bytes_eq word (codes "card") then Some verbs.Card
-    else (if bytes_eq word (codes "show") then Some verbs.Show
-    else (if bytes_eq word (codes "stat") then Some verbs.Stat
-    else None))))))))))))
+abbrev pub all_verbs : List Verb
+all_verbs =
+    verbs.Add ∷ verbs.Resize ∷ verbs.Remove ∷ verbs.Release ∷ verbs.Packets ∷ verbs.Run ∷ verbs.Read ∷ verbs.Frozen ∷ verbs.Query
+    ∷ verbs.Dist ∷ verbs.Card ∷ verbs.Show ∷ verbs.Stat ∷ []
 
+-- the command that begins with this word
+unfoldable pub verb_named : List ℕ → Option Verb
+verb_named word = find (λ verb. bytes_eq word (verb_word verb)) all_verbs
+
+-- the name of each kind
 abbrev pub kind_word : Kind → List ℕ
 kind_word kinds.Cms = codes "cms"
 kind_word kinds.SumaxSum = codes "sumax_sum"
@@ -54,18 +48,15 @@ kind_word kinds.Hll = codes "hll"
 kind_word kinds.FlagOr = codes "flag_or"
 kind_word kinds.FlagAnd = codes "flag_and"
 
-unfoldable pub kind_named : List ℕ → Option Kind
-kind_named word =
-    if bytes_eq word (codes "cms") then Some kinds.Cms
-    else (if bytes_eq word (codes "sumax_sum") then Some kinds.SumaxSum
-    else (if bytes_eq word (codes "sumax_max") then Some kinds.SumaxMax
-    else (if bytes_eq word (codes "bloom") then Some kinds.Bloom
-    else (if bytes_eq word (codes "mrac") then Some kinds.Mrac
-    else (if bytes_eq word (codes "hll") then Some kinds.Hll
-    else (if bytes_eq word (codes "flag_or") then Some kinds.FlagOr
-    else (if bytes_eq word (codes "flag_and") then Some kinds.FlagAnd
-    else None)))))))
+abbrev pub all_kinds : List Kind
+all_kinds =
+    kinds.Cms ∷ kinds.SumaxSum ∷ kinds.SumaxMax ∷ kinds.Bloom ∷ kinds.Mrac ∷ kinds.Hll ∷ kinds.FlagOr ∷ kinds.FlagAnd ∷ []
 
+-- the kind of this name
+unfoldable pub kind_named : List ℕ → Option Kind
+kind_named word = find (λ kind. bytes_eq word (kind_word kind)) all_kinds
+
+-- the name of each attribute
 abbrev pub attr_word : Attr → List ℕ
 attr_word attrs.Packets = codes "packets"
 attr_word attrs.Bytes = codes "bytes"
@@ -73,14 +64,12 @@ attr_word attrs.Ttl = codes "ttl"
 attr_word attrs.Flags = codes "flags"
 attr_word attrs.Flow = codes "flow"
 
+abbrev pub all_attrs : List Attr
+all_attrs = attrs.Packets ∷ attrs.Bytes ∷ attrs.Ttl ∷ attrs.Flags ∷ attrs.Flow ∷ []
+
+-- the attribute of this name
 unfoldable pub attr_named : List ℕ → Option Attr
-attr_named word =
-    if bytes_eq word (codes "packets") then Some attrs.Packets
-    else (if bytes_eq word (codes "bytes") then Some attrs.Bytes
-    else (if bytes_eq word (codes "ttl") then Some attrs.Ttl
-    else (if bytes_eq word (codes "flags") then Some attrs.Flags
-    else (if bytes_eq word (codes "flow") then Some attrs.Flow
-    else None))))
+attr_named word = find (λ attr. bytes_eq word (attr_word attr)) all_attrs
 
 -- one to ten digits of a number of 32 bits
 abbrev pub full_number : List ℕ → Option ℕ
@@ -104,6 +93,6 @@ unfoldable pub attr_in : Kind → List ℕ → Option Attr
 attr_in kind word = option_and_then (attr_allowed kind) (attr_named word)
 
 -- what stands behind the label, where the word has it
-unfoldable pub behind_label : List ℕ → List ℕ → Option (List ℕ)
-behind_label label word =
-    if nat_le (length label) (length word) && bytes_eq (take (length label) word) label then Some (drop (length label) word) else None
+unfoldable pub after_label : List ℕ → List ℕ → Option (List ℕ)
+after_label label word =
+    if bytes_eq (take (length label) word) label then Some (drop (length label) word) else None

@@ -1,8 +1,8 @@
 //! A law of the canonical texts. It is the contract of an empty function.
-ghost use Rattle.task_lang.specs.Printing.{TextsTell};
+ghost use Rattle.task_lang.specs.Laws.{CanonicalIsPrinted};
 
-/// Two commands with one canonical text are the same command.
-#[tactic(auto, using(crate::proofs::PrintLemmas::text_tells))]
-pub fn texts_tell()
-    ensures { TextsTell }
+/// Of the texts that are read as a command, the printed one alone is canonical.
+#[tactic(auto, using(crate::proofs::CanonicalLemmas::canonical_printed))]
+pub fn canonical_is_printed()
+    ensures { CanonicalIsPrinted }
 {}

@@ -1,38 +1,44 @@
 //! Commands as they are printed: one canonical line for each.
 ghost use Rattle.std.specs.Prelude.{◌≡◌, ◌≢◌, ◌+◌, ◌≤◌, ◌<◌, ◌^◌, ◌∷◌, [], ◌++◌, IsTrue, None, Ok, codes, length};
 ghost use Rattle.std.specs.Fmt.{decimal};
-ghost use Rattle.key_mask.specs.Keys.{key_in, key_text, no_lengths};
+ghost use Rattle.key_mask.specs.Keys.{key_text, no_lengths};
 ghost use Rattle.task_filters.specs.Filters.{IsVector};
 ghost use Rattle.task_filters.specs.Printing.{filter_text};
+ghost use Rattle.sketch_defs.specs.declared.names.TheConstants.{NAME_BYTES};
 ghost use Rattle.sketch_defs.specs.Names.{is_name};
 ghost use Rattle.sketch_defs.specs.Tasks.{first_fault};
 ghost use Rattle.task_lang.specs.declared.commands.Command.TheVariants as commands;
-ghost use Rattle.task_lang.specs.Words.{kind_word, attr_word};
+ghost use Rattle.task_lang.specs.Words.{verb_word, kind_word, attr_word};
 ghost use Rattle.task_lang.specs.Script.{script_in};
-ghost use Rattle.task_lang.specs.Printing.{command_text, task_text, IsCommand, IsFilter, IsTask};
+ghost use Rattle.task_lang.specs.Canonical.{IsCanonical};
+ghost use Rattle.task_lang.specs.Printing.{command_text, task_text, longest_key, longest_filter, longest_front, longest_labelled, longest_task, IsCommand, IsFilter, IsKey, IsTask};
 
-use crate::commands::Command;
+use crate::commands::{Command, Verb};
+use crate::words::{attr_word, kind_word, verb_word};
 use itoa::Buffer;
 use key_mask::{KEY_BYTES, Line, Mask, put_key};
 use pkt_headers::Attr;
-use sketch_defs::{Kind, Name, Task};
+use sketch_defs::{Name, Task};
 use task_filters::Filter;
 
 /// The canonical text of the command, which is read as it: its words in their order with single
 /// spaces between, and no end of the line.
-#[tactic(auto, using(crate::proofs::PrintLemmas::command_again))]
+#[tactic(auto, using(crate::proofs::PrintLemmas::command_again, crate::proofs::PrintLemmas::command_canonical))]
 pub fn put_command(command: &Command) -> Line
     ensures text { result.bytes ≡ command_text command.now }
     ensures again { script_in result.bytes ≡ Ok (command.now ∷ []) }
-    ensures short { length result.bytes ≤ 400 }
+    ensures canonical { IsCanonical result.bytes }
 {
     command_line(command)
 }
 
 /// The canonical text of the task: what stands behind `add` in the command that adds it.
+#[tactic(auto, using(crate::proofs::PrintLemmas::task_again, crate::proofs::PrintLemmas::task_canonical))]
 pub fn put_task(task: &Task) -> Line
     ensures text { result.bytes ≡ task_text task.now }
-    ensures short { length result.bytes ≤ 389 }
+    ensures again { script_in (codes "add " ++ result.bytes) ≡ Ok (commands.Add task.now ∷ []) }
+    ensures canonical { IsCanonical (codes "add " ++ result.bytes) }
+    ensures short { length result.bytes ≤ longest_task }
 {
     let mut line = Line::new();
     put_parts(&mut line, task);
@@ -43,22 +49,21 @@ pub fn put_task(task: &Task) -> Line
 fn command_line(command: &Command) -> Line
     ensures text { result.bytes ≡ command_text command.now }
     ensures known { IsCommand command.now }
-    ensures short { length result.bytes ≤ 400 }
 {
     match command {
         Command::Add(task) => add_line(task),
         Command::Resize { name, size } => resize_line(name, *size),
-        Command::Remove(name) => named_line("remove ", name),
-        Command::Release(name) => named_line("release ", name),
+        Command::Remove(name) => named_line(Verb::Remove, name),
+        Command::Release(name) => named_line(Verb::Release, name),
         Command::Packets(number) => packets_line(*number),
-        Command::Run => word_line("run"),
-        Command::Read(name) => named_line("read ", name),
-        Command::Frozen(name) => named_line("frozen ", name),
+        Command::Run => verb_line(Verb::Run),
+        Command::Read(name) => named_line(Verb::Read, name),
+        Command::Frozen(name) => named_line(Verb::Frozen, name),
         Command::Query { name, at } => query_line(name, at),
-        Command::Dist(name) => named_line("dist ", name),
-        Command::Card(name) => named_line("card ", name),
-        Command::Show => word_line("show"),
-        Command::Stat => word_line("stat"),
+        Command::Dist(name) => named_line(Verb::Dist, name),
+        Command::Card(name) => named_line(Verb::Card, name),
+        Command::Show => verb_line(Verb::Show),
+        Command::Stat => verb_line(Verb::Stat),
     }
 }
 
@@ -66,10 +71,9 @@ fn command_line(command: &Command) -> Line
 fn add_line(task: &Task) -> Line
     ensures text { result.bytes ≡ command_text (commands.Add task.now) }
     ensures known { IsTask task.now }
-    ensures short { length result.bytes ≤ 393 }
 {
-    let mut line = Line::new();
-    line.push_str("add ");
+    let mut line = verb_line(Verb::Add);
+    line.push_str(" ");
     put_parts(&mut line, task);
     line
 }
@@ -78,11 +82,8 @@ fn add_line(task: &Task) -> Line
 fn resize_line(name: &Name, size: u32) -> Line
     ensures text { result.bytes ≡ command_text (commands.Resize name.now size) }
     ensures named { IsTrue (is_name name.now) }
-    ensures short { length result.bytes ≤ 50 }
 {
-    let mut line = Line::new();
-    line.push_str("resize ");
-    put_name(&mut line, name);
+    let mut line = named_line(Verb::Resize, name);
     line.push_str(" memory=");
     line.push_str(Buffer::new().format(size));
     line
@@ -90,11 +91,10 @@ fn resize_line(name: &Name, size: u32) -> Line
 
 #[tactic(auto, unfolding(crate::specs::Printing::command_text))]
 fn packets_line(number: u32) -> Line
-    ensures text { result.bytes ≡ command_text (commands.Packets number) }
-    ensures short { length result.bytes ≤ 18 }
+    ensures { result.bytes ≡ command_text (commands.Packets number) }
 {
-    let mut line = Line::new();
-    line.push_str("packets ");
+    let mut line = verb_line(Verb::Packets);
+    line.push_str(" ");
     line.push_str(Buffer::new().format(number));
     line
 }
@@ -104,46 +104,42 @@ fn query_line(name: &Name, at: &Filter) -> Line
     ensures text { result.bytes ≡ command_text (commands.Query name.now at.now) }
     ensures named { IsTrue (is_name name.now) }
     ensures known { IsFilter at.now }
-    ensures short { length result.bytes ≤ 233 }
 {
-    let mut line = Line::new();
-    line.push_str("query ");
-    put_name(&mut line, name);
+    let mut line = named_line(Verb::Query, name);
     line.push_str(" ");
     put_filter(&mut line, at);
     line
 }
 
-/// A command and the name of a task.
-fn named_line(command: &str, name: &Name) -> Line
-    requires { length command.now ≤ 8 }
-    ensures text { result.bytes ≡ command.now ++ name.now }
+/// The word of a command, and the name of a task.
+fn named_line(verb: Verb, name: &Name) -> Line
+    ensures text { result.bytes ≡ verb_word verb ++ 32 ∷ name.now }
     ensures named { IsTrue (is_name name.now) }
     ensures short { length result.bytes ≤ 24 }
 {
-    let mut line = Line::new();
-    line.push_str(command);
+    let mut line = verb_line(verb);
+    line.push_str(" ");
     put_name(&mut line, name);
     line
 }
 
-/// A command alone.
-fn word_line(command: &str) -> Line
-    requires { length command.now ≤ 4 }
-    ensures { result.bytes ≡ command.now }
+/// The word of a command alone.
+fn verb_line(verb: Verb) -> Line
+    ensures text { result.bytes ≡ verb_word verb }
+    ensures short { length result.bytes ≤ 7 }
 {
     let mut line = Line::new();
-    line.push_str(command);
+    line.push_str(verb_word(verb));
     line
 }
 
 /// Appends the words of a task.
 #[tactic(auto, unfolding(crate::specs::Printing::task_text))]
 fn put_parts(line: &mut Line, task: &Task)
-    requires { length line.old.bytes ≤ 100 }
+    requires { length line.old.bytes + longest_task ≤ 512 }
     ensures text { line.new.bytes ≡ line.old.bytes ++ task_text task.now }
     ensures known { IsTask task.now }
-    ensures short { length line.new.bytes ≤ length line.old.bytes + 389 }
+    ensures short { length line.new.bytes ≤ length line.old.bytes + longest_task }
 {
     put_front(line, task);
     put_labelled(line, task);
@@ -151,32 +147,31 @@ fn put_parts(line: &mut Line, task: &Task)
 
 /// Appends the words of a task that have no label.
 fn put_front(line: &mut Line, task: &Task)
-    requires { length line.old.bytes ≤ 100 }
+    requires { length line.old.bytes + longest_front ≤ 512 }
     ensures text { let sketch = task.now in
         line.new.bytes ≡ line.old.bytes ++ (sketch.name ++ 32 ∷ (kind_word sketch.kind ++ 32 ∷ decimal sketch.rows)) }
     ensures named { IsTrue (is_name task.now.name) }
     ensures allowed { first_fault task.now ≡ None }
-    ensures short { length line.new.bytes ≤ length line.old.bytes + 37 }
+    ensures short { length line.new.bytes ≤ length line.old.bytes + longest_front }
 {
     put_name(line, task.name());
     line.push_str(" ");
-    line.push_str(kind_name(task.kind()));
+    line.push_str(kind_word(task.kind()));
     line.push_str(" ");
     line.push_str(Buffer::new().format(task.rows()));
 }
 
 /// Appends the words of a task that have labels, each behind a space.
 fn put_labelled(line: &mut Line, task: &Task)
-    requires room { length line.old.bytes ≤ 140 }
+    requires room { length line.old.bytes + longest_labelled ≤ 512 }
     requires allowed { first_fault task.now ≡ None }
     ensures text { let sketch = task.now in
         line.new.bytes ≡ line.old.bytes ++ (codes " key=" ++ (key_text sketch.key ++ (codes " attr=" ++ (attr_word sketch.attr
         ++ (codes " filter=" ++ (filter_text sketch.filter ++ (codes " memory=" ++ decimal sketch.size))))))) }
-    ensures key { key_in (key_text task.now.key) ≡ Ok task.now.key }
-    ensures fits { length (key_text task.now.key) ≤ 98 }
+    ensures key { IsKey task.now.key }
     ensures filter { IsFilter task.now.filter }
     ensures size { task.now.size < 2 ^ 32 }
-    ensures short { length line.new.bytes ≤ length line.old.bytes + 352 }
+    ensures short { length line.new.bytes ≤ length line.old.bytes + longest_labelled }
 {
     put_mask(line, task.key());
     put_attr(line, task.attr());
@@ -188,12 +183,11 @@ fn put_labelled(line: &mut Line, task: &Task)
 
 /// Appends the key, with its label.
 fn put_mask(line: &mut Line, key: &Mask)
-    requires room { length line.old.bytes ≤ 200 }
+    requires room { length line.old.bytes + (5 + longest_key) ≤ 512 }
     requires stands { key.now ≢ no_lengths }
     ensures text { line.new.bytes ≡ line.old.bytes ++ (codes " key=" ++ key_text key.now) }
-    ensures again { key_in (key_text key.now) ≡ Ok key.now }
-    ensures fits { length (key_text key.now) ≤ 98 }
-    ensures short { length line.new.bytes ≤ length line.old.bytes + 103 }
+    ensures known { IsKey key.now }
+    ensures short { length line.new.bytes ≤ length line.old.bytes + (5 + longest_key) }
 {
     line.push_str(" key=");
     line.push_str(put_key(key).as_str());
@@ -201,30 +195,30 @@ fn put_mask(line: &mut Line, key: &Mask)
 
 /// Appends the attribute, with its label.
 fn put_attr(line: &mut Line, attr: Attr)
-    requires { length line.old.bytes ≤ 400 }
+    requires { length line.old.bytes + 13 ≤ 512 }
     ensures text { line.new.bytes ≡ line.old.bytes ++ (codes " attr=" ++ attr_word attr) }
     ensures short { length line.new.bytes ≤ length line.old.bytes + 13 }
 {
     line.push_str(" attr=");
-    line.push_str(attr_name(attr));
+    line.push_str(attr_word(attr));
 }
 
 /// Appends the name.
 fn put_name(line: &mut Line, name: &Name)
-    requires { length line.old.bytes ≤ 400 }
+    requires { length line.old.bytes + NAME_BYTES ≤ 512 }
     ensures text { line.new.bytes ≡ line.old.bytes ++ name.now }
     ensures named { IsTrue (is_name name.now) }
-    ensures short { length line.new.bytes ≤ length line.old.bytes + 16 }
+    ensures short { length line.new.bytes ≤ length line.old.bytes + NAME_BYTES }
 {
     line.push_str(name.as_str());
 }
 
 /// Appends the filter.
 fn put_filter(line: &mut Line, filter: &Filter)
-    requires { length line.old.bytes ≤ 300 }
+    requires { length line.old.bytes + longest_filter ≤ 512 }
     ensures text { line.new.bytes ≡ line.old.bytes ++ filter_text filter.now }
     ensures known { IsFilter filter.now }
-    ensures short { length line.new.bytes ≤ length line.old.bytes + 210 }
+    ensures short { length line.new.bytes ≤ length line.old.bytes + longest_filter }
 {
     // read for what its bytes are known to be
     let _value = bytes_of(&filter.value().0);
@@ -236,37 +230,6 @@ fn bytes_of(bytes: &[u8; KEY_BYTES]) -> &[u8]
     ensures { IsVector bytes.now }
 {
     bytes.as_slice()
-}
-
-/// The word for the kind, of at most 9 bytes.
-fn kind_name(kind: Kind) -> &'static str
-    ensures text { result.now ≡ kind_word kind }
-    ensures short { length result.now ≤ 9 }
-{
-    match kind {
-        Kind::Cms => "cms",
-        Kind::SumaxSum => "sumax_sum",
-        Kind::SumaxMax => "sumax_max",
-        Kind::Bloom => "bloom",
-        Kind::Mrac => "mrac",
-        Kind::Hll => "hll",
-        Kind::FlagOr => "flag_or",
-        Kind::FlagAnd => "flag_and",
-    }
-}
-
-/// The word for the attribute, of at most 7 bytes.
-fn attr_name(attr: Attr) -> &'static str
-    ensures text { result.now ≡ attr_word attr }
-    ensures short { length result.now ≤ 7 }
-{
-    match attr {
-        Attr::Packets => "packets",
-        Attr::Bytes => "bytes",
-        Attr::Ttl => "ttl",
-        Attr::Flags => "flags",
-        Attr::Flow => "flow",
-    }
 }
 
 #[cfg(test)]

@@ -3,11 +3,11 @@ ghost use Rattle.std.specs.Prelude.{◌≡◌, ◌≢◌, IsTrue};
 ghost use Rattle.key_mask.specs.Keys.{no_lengths};
 ghost use Rattle.sketch_defs.specs.Tasks.{allows, allows_rows};
 ghost use Rattle.texts.specs.Words.{words};
-ghost use Rattle.task_lang.specs.Reading.{Names};
+ghost use Rattle.task_lang.specs.Reading.{ReadsName};
 ghost use Rattle.task_lang.specs.Script.{add_in, resize_in, query_in, packets_in, alone_in, command_by, command_in};
 
 use crate::commands::{Command, LineFault, Verb};
-use crate::words::{attr_for, behind, full_number_of, kind_of, rows_for, verb_of};
+use crate::words::{after_label, attr_for, full_number_of, kind_of, rows_for, verb_of};
 use key_mask::{Mask, parse_key};
 use pkt_headers::Attr;
 use sketch_defs::{Kind, Name, Task};
@@ -54,10 +54,10 @@ fn add_of(line: &[u8]) -> Result<Command, LineFault>
     if word_count(line) != 8 {
         return Err(LineFault::Words);
     }
-    let key = behind(b"key=", word_of(line, 4)).ok_or(LineFault::Words)?;
-    let attr = behind(b"attr=", word_of(line, 5)).ok_or(LineFault::Words)?;
-    let filter = behind(b"filter=", word_of(line, 6)).ok_or(LineFault::Words)?;
-    let memory = behind(b"memory=", word_of(line, 7)).ok_or(LineFault::Words)?;
+    let key = after_label(b"key=", word_of(line, 4)).ok_or(LineFault::Words)?;
+    let attr = after_label(b"attr=", word_of(line, 5)).ok_or(LineFault::Words)?;
+    let filter = after_label(b"filter=", word_of(line, 6)).ok_or(LineFault::Words)?;
+    let memory = after_label(b"memory=", word_of(line, 7)).ok_or(LineFault::Words)?;
     let name = Name::parse(word_of(line, 1)).ok_or(LineFault::Name)?;
     let kind = kind_of(word_of(line, 2)).ok_or(LineFault::Kind)?;
     let rows = rows_for(kind, word_of(line, 3)).ok_or(LineFault::Rows)?;
@@ -98,7 +98,7 @@ fn resize_of(line: &[u8]) -> Result<Command, LineFault>
     if word_count(line) != 3 {
         return Err(LineFault::Words);
     }
-    let memory = behind(b"memory=", word_of(line, 2)).ok_or(LineFault::Words)?;
+    let memory = after_label(b"memory=", word_of(line, 2)).ok_or(LineFault::Words)?;
     let name = Name::parse(word_of(line, 1)).ok_or(LineFault::Name)?;
     let size = full_number_of(memory).ok_or(LineFault::Size)?;
     Ok(Command::Resize { name, size })
@@ -132,7 +132,7 @@ fn packets_of(line: &[u8]) -> Result<Command, LineFault>
 /// The name, where nothing stands behind it.
 #[tactic(auto, unfolding(crate::specs::Script::named_in))]
 fn name_behind(line: &[u8]) -> Result<Name, LineFault>
-    ensures { Names result (words line.now) }
+    ensures { ReadsName result (words line.now) }
 {
     if word_count(line) != 2 {
         return Err(LineFault::Words);

@@ -3,8 +3,8 @@ ghost use Rattle.std.specs.Prelude.{◌≡◌, ◌≤◌, length};
 ghost use Rattle.std.specs.List.{list_all};
 ghost use Rattle.std.specs.Str.Lines.{strip_carriage_return};
 ghost use Rattle.texts.specs.Cuts.{parts};
-ghost use Rattle.task_lang.specs.Reading.{Gives, Takes, listed};
-ghost use Rattle.task_lang.specs.Script.{is_skipped, is_allowed, plain_line_in, line_in, script_from, script_in};
+ghost use Rattle.task_lang.specs.Reading.{GivesCommands, TakesLine, command_list};
+ghost use Rattle.task_lang.specs.Script.{is_skipped, is_allowed, plain_line_in, line_in, script_from, script_in, script_limit};
 
 use crate::commands::{Command, LineFault, ParseFail, ScriptFault};
 use crate::reading::command_of;
@@ -18,7 +18,7 @@ pub const SCRIPT_LIMIT: usize = 1_048_576;
 /// and comments have none.
 #[tactic(auto, using(std::proofs::lemmas::Bool::Decides::nat_tests), unfolding(crate::specs::Script::script_in))]
 pub fn parse_script(alloc: Global, text: &[u8]) -> Result<Vec<Command>, ParseFail>
-    ensures { Gives (λ commands. commands.items) result (script_in text.now) }
+    ensures { GivesCommands (λ commands. commands.items) result (script_in text.now) }
 {
     if text.len() > SCRIPT_LIMIT {
         return Err(ParseFail::Fault(ScriptFault {
@@ -31,18 +31,15 @@ pub fn parse_script(alloc: Global, text: &[u8]) -> Result<Vec<Command>, ParseFai
 
 /// The commands of a script that is not too long.
 fn lines_of(alloc: Global, text: &[u8]) -> Result<Vec<Command>, ParseFail>
-    requires { length text.now ≤ 1048576 }
-    ensures { Gives (λ commands. commands.items) result (script_from 1 (parts 10 text.now)) }
+    requires { length text.now ≤ script_limit }
+    ensures { GivesCommands (λ commands. commands.items) result (script_from 1 (parts 10 text.now)) }
 {
     let mut commands = Vec::new(alloc);
     let mut number = 1;
     let mut left = Some(text);
     'lines: while let Some(text) = left {
         let (line, rest) = cut(text, b'\n');
-        match take_line(&mut commands, number, line) {
-            Ok(()) => {}
-            Err(fail) => return Err(fail),
-        }
+        take_line(&mut commands, number, line)?;
         number += 1;
         left = rest;
     }
@@ -51,14 +48,11 @@ fn lines_of(alloc: Global, text: &[u8]) -> Result<Vec<Command>, ParseFail>
 
 /// Puts the command of a line, if it has one, behind those that were found before.
 fn take_line(commands: &mut Vec<Command>, number: u32, line: &[u8]) -> Result<(), ParseFail>
-    ensures { Takes result number (line_in line.now) commands.old.items commands.new.items }
+    ensures { TakesLine result number (line_in line.now) commands.old.items commands.new.items }
 {
     match plain_line_of(without_return(line)) {
         Ok(None) => Ok(()),
-        Ok(Some(command)) => match commands.push(command) {
-            Ok(()) => Ok(()),
-            Err(_) => Err(ParseFail::Memory),
-        },
+        Ok(Some(command)) => commands.push(command).map_err(|_| ParseFail::Memory),
         Err(kind) => Err(ParseFail::Fault(ScriptFault { line: number, kind })),
     }
 }
@@ -67,17 +61,13 @@ fn take_line(commands: &mut Vec<Command>, number: u32, line: &[u8]) -> Result<()
 fn without_return(line: &[u8]) -> &[u8]
     ensures { result.now ≡ strip_carriage_return line.now }
 {
-    if !line.is_empty() && line[line.len() - 1] == b'\r' {
-        &line[..line.len() - 1]
-    } else {
-        line
-    }
+    line.strip_suffix(b"\r").unwrap_or(line)
 }
 
 /// The command of a line with no line end, if it has one.
 #[tactic(auto, unfolding(crate::specs::Script::plain_line_in))]
 fn plain_line_of(line: &[u8]) -> Result<Option<Command>, LineFault>
-    ensures { listed result ≡ plain_line_in line.now }
+    ensures { command_list result ≡ plain_line_in line.now }
 {
     if is_skipped(line) {
         return Ok(None);
@@ -85,10 +75,7 @@ fn plain_line_of(line: &[u8]) -> Result<Option<Command>, LineFault>
     if !has_allowed_bytes(line) {
         return Err(LineFault::Byte);
     }
-    match command_of(line) {
-        Ok(command) => Ok(Some(command)),
-        Err(kind) => Err(kind),
-    }
+    Ok(Some(command_of(line)?))
 }
 
 /// Whether the line is empty or a comment.
@@ -114,5 +101,5 @@ fn has_allowed_bytes(line: &[u8]) -> bool
 fn is_allowed(byte: u8) -> bool
     ensures { result ≡ is_allowed byte }
 {
-    byte == b'\t' || b' ' <= byte && byte <= b'~'
+    matches!(byte, b'\t' | b' '..=b'~')
 }

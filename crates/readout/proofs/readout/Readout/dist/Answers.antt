@@ -6,5 +6,5 @@ use Rattle.readout.proofs.readout.Readout.dist.Goals as goal
 pub send_dist-requires-clause-room : goal.send_dist-requires-clause-room
 send_dist-requires-clause-room g c =
     let v = g.V.TaskView in
-    room_for (task_named c.args.name.now (v.tasks c.args.view.now)) (placed_task_at (v.tasks c.args.view.now) c.in-Ok.at) c.self.inside.bits (vec_capacity c.self.inside.cells)
-    c.in-Ok.ensures.found (rw (← c.self.view_is) at c.requires.room) c.self.invariant.1
+    room_for (task_named c.args.name.now (v.tasks c.args.view.now)) (placed_task_at (v.tasks c.args.view.now) c.in_ok-at.at) c.self.inside.bits (vec_capacity c.self.inside.cells)
+    c.in_ok-at.ensures.found (rw (← c.self.view_is) at c.requires.room) c.self.invariant.1

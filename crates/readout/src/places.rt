@@ -1,0 +1,55 @@
+//! Where a task stands, and how many cells it has there.
+ghost use Rattle.std.specs.Prelude.{◌≡◌, ◌^◌, ◌<◌, ◌≤◌, length};
+ghost use Rattle.readout.specs.PlacedTasks.{placed_task_at, place_at, block_of, IsFit};
+
+use crate::views::{Placed, Side, TaskView};
+use addr_translate::Region;
+use sketch_defs::Task;
+
+/// Where the first row of a task stands.
+#[tactic(auto, using(crate::proofs::PlacedTaskLemmas::rows_placed))]
+pub(crate) fn first_place<V: TaskView>(view: &V, at: usize) -> Placed
+    requires fit { IsFit (V.geometry view.now) (V.tasks view.now) }
+    requires task { at < length (V.tasks view.now) }
+    ensures value { result ≡ place_at (placed_task_at (V.tasks view.now) at) 0 }
+    ensures exists { 0 < length (placed_task_at (V.tasks view.now) at).places }
+{
+    let rows = row_count(view.task(at));
+    prove!(0 < rows);
+    view.placed(at, 0)
+}
+
+/// How many rows the task has.
+#[tactic(auto, using(crate::proofs::PlacedTaskLemmas::some_rows, crate::proofs::PlacedTaskLemmas::few_rows))]
+pub(crate) fn row_count(task: &Task) -> u32
+    ensures value { result ≡ task.now.rows }
+    ensures some { 1 ≤ result }
+    ensures few { result ≤ 4 }
+{
+    task.rows()
+}
+
+/// The partition of the side.
+pub(crate) fn part_of(place: Placed, side: Side) -> Region
+    ensures { result ≡ block_of side place }
+{
+    match side {
+        Side::Live => place.region,
+        Side::Frozen => place.frozen.unwrap_or(place.region),
+    }
+}
+
+/// The bits of an index into a partition.
+pub(crate) fn bits_of(part: Region) -> u32
+    ensures value { result ≡ part.bits }
+    ensures few { result ≤ 20 }
+{
+    part.bits
+}
+
+/// How many registers a partition has.
+pub(crate) fn cell_count(part: Region) -> u32
+    ensures { result ≡ 2 ^ part.bits }
+{
+    1 << part.bits
+}

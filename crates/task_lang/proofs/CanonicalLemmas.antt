@@ -1,0 +1,441 @@
+-- A canonical text that is read as a command is what is printed of it.
+use Rattle.std.proofs.Common.{◌≡◌, ℕ, ◌==◌, Bool, true, false, not, cond, nat_lt, List, [], ◌∷◌, ◌++◌, length, take, drop, codes, Option, None, Some, IfSome, ok_or, option_and_then, Result, Ok, Err, refl, ap, sym, ◌∙◌, arith}
+use Rattle.std.specs.List.{find, join_with_byte, list_all}
+use Rattle.std.specs.Fmt.{decimal}
+use Rattle.std.specs.Str.{bytes_eq}
+use Rattle.std.proofs.lemmas.Bool.Decides.{nat_tests}
+use Rattle.std.proofs.lemmas.List.{take-append-drop}
+use Rattle.std.proofs.lemmas.Slice.Eq.{bytes_eq-Decides}
+use Rattle.texts.specs.Cuts.{parts}
+use Rattle.texts.specs.Words.{words, word_at}
+use Rattle.texts.proofs.CutLemmas.{free_of, split_last}
+use Rattle.key_mask.specs.declared.keys.FieldFault.{FieldFault}
+use Rattle.key_mask.specs.Keys.{◌>>=◌, key_in, key_text}
+use Rattle.pkt_headers.specs.declared.packets.Attr.{Attr}
+use Rattle.sketch_defs.specs.declared.kinds.Kind.{Kind}
+use Rattle.sketch_defs.specs.Names.{is_name}
+use Rattle.sketch_defs.specs.Tasks.{allows, allows_rows}
+use Rattle.task_filters.specs.Filters.{Pattern}
+use Rattle.task_filters.specs.Printing.{filter_text}
+use Rattle.task_filters.specs.Terms.{filter_in}
+use Rattle.task_lang.specs.declared.commands.Command.{Command}
+use Rattle.task_lang.specs.declared.commands.Command.TheVariants as commands
+use Rattle.task_lang.specs.declared.commands.LineFault.{LineFault}
+use Rattle.task_lang.specs.declared.commands.LineFault.TheVariants as faults
+use Rattle.task_lang.specs.declared.commands.Verb.{Verb}
+use Rattle.task_lang.specs.declared.commands.Verb.TheVariants as verbs
+use Rattle.task_lang.specs.Canonical.{AreCanonicalOperands, AreTaskOperands, IsBehind, IsCanonicalFilter, IsCanonicalKey, IsCanonicalNumber, is_printed}
+use Rattle.task_lang.specs.Laws.{CanonicalIsPrinted}
+use Rattle.task_lang.specs.Printing.{command_text, command_words}
+use Rattle.task_lang.specs.Script.{add_in, alone_in, at_line, command_by, command_in, counted, is_allowed, is_skipped, named_in, one, or_fault, packets_in, plain_line_in, query_in, resize_in, script_from, script_in, script_limit, with_front}
+use Rattle.task_lang.specs.Words.{after_label, all_attrs, all_kinds, all_verbs, attr_allowed, attr_in, attr_named, attr_word, full_number, kind_named, kind_word, name_in, rows_allowed, rows_in, verb_named, verb_word}
+use Rattle.task_lang.proofs.NumberLemmas.{number_printed}
+use Rattle.task_lang.proofs.TokenLemmas.{all_weaker, no_return}
+
+-- ---- steps that found something
+
+some_bind : {A B E : Type 0} (found : Option A) (fault : E) (more : A → Result B E) (value : B)
+    → (ok_or found fault >>= more) ≡ Ok value → (x : A) × (found ≡ Some x) × (more x ≡ Ok value)
+some_bind None fault more value e = absurd (cc)
+some_bind (Some x) fault more value e = (x, refl, e)
+
+ok_bind : {A B : Type 0} (found : Result A FieldFault) (fault : FieldFault → LineFault) (more : A → Result B LineFault) (value : B)
+    → (or_fault fault found >>= more) ≡ Ok value → (x : A) × (found ≡ Ok x) × (more x ≡ Ok value)
+ok_bind (Err cause) fault more value e = absurd (cc)
+ok_bind (Ok x) fault more value e = (x, refl, e)
+
+count_bind : {B : Type 0} (count : ℕ) (ws : List (List ℕ)) (more : List (List ℕ) → Result B LineFault) (value : B)
+    → (counted count ws >>= more) ≡ Ok value → (length ws ≡ count) × (more ws ≡ Ok value)
+count_bind count ws more value e =
+    elim (length ws == count) as
+    (λ b. (length ws == count) ≡ b → (cond b (Ok ws) (Err faults.Words) >>= more) ≡ Ok value → (length ws ≡ count) × (more ws ≡ Ok value)) [
+      | true ↦ λ t e. (grind (arith, nat_tests, t), e)
+      | false ↦ λ t e. absurd (cc)
+    ] refl e
+
+ok_same : (first other : Command) → ◌≡◌ {A = Result Command LineFault} (Ok first) (Ok other) → first ≡ other
+ok_same first other e = cc
+
+-- ---- each word is the one that is printed
+
+found_passes : {X : Type 0} (test : X → Bool) (xs : List X) (x : X) → find test xs ≡ Some x → test x ≡ true
+found_passes test [] x e = absurd (cc)
+found_passes test (y ∷ ys) x e =
+    elim (test y) as (λ b. test y ≡ b → cond b (Some y) (find test ys) ≡ Some x → test x ≡ true) [
+      | true ↦ λ t e. let same : y ≡ x = cc in ap test (sym same) ∙ t
+      | false ↦ λ t e. found_passes test ys x e
+    ] refl e
+
+same_bytes : (one other : List ℕ) → bytes_eq one other ≡ true → one ≡ other
+same_bytes one other t = (bytes_eq-Decides one other).0 t
+
+verb_said : (word : List ℕ) (verb : Verb) → verb_named word ≡ Some verb → word ≡ verb_word verb
+unfolding verb_named
+verb_said word verb e = same_bytes word (verb_word verb) (found_passes (λ verb. bytes_eq word (verb_word verb)) all_verbs verb e)
+
+kind_said : (word : List ℕ) (kind : Kind) → kind_named word ≡ Some kind → word ≡ kind_word kind
+unfolding kind_named
+kind_said word kind e = same_bytes word (kind_word kind) (found_passes (λ kind. bytes_eq word (kind_word kind)) all_kinds kind e)
+
+attr_said : (word : List ℕ) (attr : Attr) → attr_named word ≡ Some attr → word ≡ attr_word attr
+unfolding attr_named
+attr_said word attr e = same_bytes word (attr_word attr) (found_passes (λ attr. bytes_eq word (attr_word attr)) all_attrs attr e)
+
+attr_of_kind : (kind : Kind) (found : Option Attr) (attr : Attr) → option_and_then (attr_allowed kind) found ≡ Some attr → found ≡ Some attr
+attr_of_kind kind None attr e = absurd (cc)
+attr_of_kind kind (Some other) attr e =
+    elim (allows kind other) as (λ b. cond b (Some other) None ≡ Some attr → Some other ≡ Some attr) [
+      | true ↦ λ e. e
+      | false ↦ λ e. absurd (cc)
+    ] e
+
+attr_in_said : (kind : Kind) (word : List ℕ) (attr : Attr) → attr_in kind word ≡ Some attr → word ≡ attr_word attr
+unfolding attr_in
+attr_in_said kind word attr e = attr_said word attr (attr_of_kind kind (attr_named word) attr e)
+
+rows_of_kind : (kind : Kind) (found : Option ℕ) (rows : ℕ) → option_and_then (rows_allowed kind) found ≡ Some rows → found ≡ Some rows
+rows_of_kind kind None rows e = absurd (cc)
+rows_of_kind kind (Some other) rows e =
+    elim (allows_rows kind other) as (λ b. cond b (Some other) None ≡ Some rows → Some other ≡ Some rows) [
+      | true ↦ λ e. e
+      | false ↦ λ e. absurd (cc)
+    ] e
+
+number_said : (word : List ℕ) (n : ℕ) → IsCanonicalNumber word → full_number word ≡ Some n → word ≡ decimal n
+number_said word n first e = number_printed 10 4294967295 n word (omega arith) first e
+
+rows_said : (kind : Kind) (word : List ℕ) (rows : ℕ) → IsCanonicalNumber word → rows_in kind word ≡ Some rows → word ≡ decimal rows
+unfolding rows_in
+rows_said kind word rows first e = number_said word rows first (rows_of_kind kind (full_number word) rows e)
+
+name_said : (word name : List ℕ) → name_in word ≡ Some name → word ≡ name
+name_said word name e =
+    elim (is_name word) as (λ b. cond b (Some word) None ≡ Some name → word ≡ name) [
+      | true ↦ λ e. cc
+      | false ↦ λ e. absurd (cc)
+    ] e
+
+label_said : (label word rest : List ℕ) → after_label label word ≡ Some rest → word ≡ label ++ rest
+unfolding after_label
+label_said label word rest e =
+    elim (bytes_eq (take (length label) word) label) as
+    (λ b. bytes_eq (take (length label) word) label ≡ b → cond b (Some (drop (length label) word)) None ≡ Some rest → word ≡ label ++ rest) [
+      | true ↦ λ t e.
+          let behind : drop (length label) word ≡ rest = cc in
+          sym (take-append-drop (length label) word) ∙ (λ i. same_bytes (take (length label) word) label t i ++ behind i)
+      | false ↦ λ t e. absurd (cc)
+    ] refl e
+
+label_printed : (label word rest text : List ℕ) → after_label label word ≡ Some rest → rest ≡ text → word ≡ label ++ text
+label_printed label word rest text e same = label_said label word rest e ∙ ap (λ rest. label ++ rest) same
+
+-- a canonical part behind its label
+part_canonical : (label word rest : List ℕ) (P : List ℕ → Type 0) → IsBehind label P word → after_label label word ≡ Some rest → P rest
+part_canonical label word rest P canonical e = rw e at canonical
+
+-- ---- so many words
+
+one_word : (ws : List (List ℕ)) → length ws ≡ 1 → ws ≡ word_at ws 0 ∷ []
+one_word [] e = absurd (omega (arith, e))
+one_word (a ∷ []) e = refl
+one_word (a ∷ b ∷ ws) e = absurd (omega (arith, e))
+
+two_words : (ws : List (List ℕ)) → length ws ≡ 2 → ws ≡ word_at ws 0 ∷ word_at ws 1 ∷ []
+two_words [] e = absurd (omega (arith, e))
+two_words (a ∷ ws) e = let rest : length ws ≡ 1 = omega (arith, e) in ap (λ found. a ∷ found) (one_word ws rest)
+
+three_words : (ws : List (List ℕ)) → length ws ≡ 3 → ws ≡ word_at ws 0 ∷ word_at ws 1 ∷ word_at ws 2 ∷ []
+three_words [] e = absurd (omega (arith, e))
+three_words (a ∷ ws) e = let rest : length ws ≡ 2 = omega (arith, e) in ap (λ found. a ∷ found) (two_words ws rest)
+
+five_words : (ws : List (List ℕ)) → length ws ≡ 5
+    → ws ≡ word_at ws 0 ∷ word_at ws 1 ∷ word_at ws 2 ∷ word_at ws 3 ∷ word_at ws 4 ∷ []
+five_words [] e = absurd (omega (arith, e))
+five_words (a ∷ []) e = absurd (omega (arith, e))
+five_words (a ∷ b ∷ ws) e = let rest : length ws ≡ 3 = omega (arith, e) in ap (λ found. a ∷ b ∷ found) (three_words ws rest)
+
+eight_words : (ws : List (List ℕ)) → length ws ≡ 8
+    → ws ≡ word_at ws 0 ∷ word_at ws 1 ∷ word_at ws 2 ∷ word_at ws 3 ∷ word_at ws 4 ∷ word_at ws 5 ∷ word_at ws 6 ∷ word_at ws 7 ∷ []
+eight_words [] e = absurd (omega (arith, e))
+eight_words (a ∷ []) e = absurd (omega (arith, e))
+eight_words (a ∷ b ∷ []) e = absurd (omega (arith, e))
+eight_words (a ∷ b ∷ c ∷ ws) e = let rest : length ws ≡ 5 = omega (arith, e) in ap (λ found. a ∷ b ∷ c ∷ found) (five_words ws rest)
+
+-- the words printed of the command that was made
+printed_of : (ws : List (List ℕ)) (made command : Command) → made ≡ command → ws ≡ command_words made → ws ≡ command_words command
+printed_of ws made command same e = rw (← same) e
+
+-- ---- the words of `add`, step by step
+
+abbrev Words : Type 0
+Words = List (List ℕ)
+
+abbrev step_size : List ℕ → (ℕ → Command) → Result Command LineFault
+step_size memory make = ok_or (full_number memory) faults.Size >>= λ size. Ok (make size)
+
+abbrev step_filter : List ℕ → List ℕ → (Pattern → ℕ → Command) → Result Command LineFault
+step_filter filter memory make = or_fault faults.Filter (filter_in filter) >>= λ pattern. step_size memory (make pattern)
+
+abbrev step_attr : List ℕ → List ℕ → List ℕ → Kind → (Attr → Pattern → ℕ → Command) → Result Command LineFault
+step_attr attr filter memory kind make = ok_or (attr_in kind attr) faults.Attr >>= λ weight. step_filter filter memory (make weight)
+
+abbrev step_key : List ℕ → List ℕ → List ℕ → List ℕ → Kind → (List ℕ → Attr → Pattern → ℕ → Command) → Result Command LineFault
+step_key key attr filter memory kind make = or_fault faults.Key (key_in key) >>= λ mask. step_attr attr filter memory kind (make mask)
+
+abbrev step_rows : Words → List ℕ → List ℕ → List ℕ → List ℕ → List ℕ → Kind → Result Command LineFault
+step_rows ws key attr filter memory name kind = ok_or (rows_in kind (word_at ws 3)) faults.Rows >>= λ rows.
+    step_key key attr filter memory kind (λ mask weight pattern size. commands.Add (record {
+      name = name;
+      kind = kind;
+      rows = rows;
+      key = mask;
+      attr = weight;
+      filter = pattern;
+      size = size;
+    }))
+
+abbrev step_kind : Words → List ℕ → List ℕ → List ℕ → List ℕ → List ℕ → Result Command LineFault
+step_kind ws key attr filter memory name = ok_or (kind_named (word_at ws 2)) faults.Kind >>= step_rows ws key attr filter memory name
+
+abbrev step_name : Words → List ℕ → List ℕ → List ℕ → List ℕ → Result Command LineFault
+step_name ws key attr filter memory = ok_or (name_in (word_at ws 1)) faults.Name >>= step_kind ws key attr filter memory
+
+abbrev step_memory : Words → List ℕ → List ℕ → List ℕ → Result Command LineFault
+step_memory ws key attr filter = ok_or (after_label (codes "memory=") (word_at ws 7)) faults.Words >>= step_name ws key attr filter
+
+abbrev step_pattern : Words → List ℕ → List ℕ → Result Command LineFault
+step_pattern ws key attr = ok_or (after_label (codes "filter=") (word_at ws 6)) faults.Words >>= step_memory ws key attr
+
+abbrev step_weight : Words → List ℕ → Result Command LineFault
+step_weight ws key = ok_or (after_label (codes "attr=") (word_at ws 5)) faults.Words >>= step_pattern ws key
+
+abbrev step_labels : Words → Result Command LineFault
+step_labels ws = ok_or (after_label (codes "key=") (word_at ws 4)) faults.Words >>= step_weight ws
+
+add_words : (ws : Words) (command : Command) → AreTaskOperands ws → word_at ws 0 ≡ verb_word verbs.Add → add_in ws ≡ Ok command → ws ≡ command_words command
+unfolding add_in
+add_words ws command canonical first e =
+    let count = count_bind 8 ws step_labels command e in
+    let key = some_bind (after_label (codes "key=") (word_at ws 4)) faults.Words (step_weight ws) command count.1 in
+    let attr = some_bind (after_label (codes "attr=") (word_at ws 5)) faults.Words (step_pattern ws key.0) command key.2 in
+    let filter = some_bind (after_label (codes "filter=") (word_at ws 6)) faults.Words (step_memory ws key.0 attr.0) command attr.2 in
+    let memory = some_bind (after_label (codes "memory=") (word_at ws 7)) faults.Words (step_name ws key.0 attr.0 filter.0) command filter.2 in
+    let name = some_bind (name_in (word_at ws 1)) faults.Name (step_kind ws key.0 attr.0 filter.0 memory.0) command memory.2 in
+    let kind = some_bind (kind_named (word_at ws 2)) faults.Kind (step_rows ws key.0 attr.0 filter.0 memory.0 name.0) command name.2 in
+    let rows = some_bind (rows_in kind.0 (word_at ws 3)) faults.Rows (λ (rows : ℕ).
+    step_key key.0 attr.0 filter.0 memory.0 kind.0 (λ mask weight pattern size. commands.Add (record {
+      name = name.0;
+      kind = kind.0;
+      rows = rows;
+      key = mask;
+      attr = weight;
+      filter = pattern;
+      size = size;
+    }))) command kind.2 in
+    let mask = ok_bind (key_in key.0) faults.Key (λ (mask : List ℕ).
+    step_attr attr.0 filter.0 memory.0 kind.0 (λ weight pattern size. commands.Add (record {
+      name = name.0;
+      kind = kind.0;
+      rows = rows.0;
+      key = mask;
+      attr = weight;
+      filter = pattern;
+      size = size;
+    }))) command rows.2 in
+    let weight = some_bind (attr_in kind.0 attr.0) faults.Attr (λ (weight : Attr).
+    step_filter filter.0 memory.0 (λ pattern size. commands.Add (record {
+      name = name.0;
+      kind = kind.0;
+      rows = rows.0;
+      key = mask.0;
+      attr = weight;
+      filter = pattern;
+      size = size;
+    }))) command mask.2 in
+    let pattern = ok_bind (filter_in filter.0) faults.Filter (λ (pattern : Pattern).
+    step_size memory.0 (λ size. commands.Add (record {
+      name = name.0;
+      kind = kind.0;
+      rows = rows.0;
+      key = mask.0;
+      attr = weight.0;
+      filter = pattern;
+      size = size;
+    }))) command weight.2 in
+    let size = some_bind (full_number memory.0) faults.Size (λ (size : ℕ). Ok (commands.Add (record {
+      name = name.0;
+      kind = kind.0;
+      rows = rows.0;
+      key = mask.0;
+      attr = weight.0;
+      filter = pattern.0;
+      size = size;
+    }))) command pattern.2 in
+    let made : commands.Add (record {
+      name = name.0;
+      kind = kind.0;
+      rows = rows.0;
+      key = mask.0;
+      attr = weight.0;
+      filter = pattern.0;
+      size = size.0;
+    }) ≡ command =
+    ok_same (commands.Add (record {
+      name = name.0;
+      kind = kind.0;
+      rows = rows.0;
+      key = mask.0;
+      attr = weight.0;
+      filter = pattern.0;
+      size = size.0;
+    })) command size.2 in
+    let name_is : word_at ws 1 ≡ name.0 = name_said (word_at ws 1) name.0 name.1 in
+    let kind_is : word_at ws 2 ≡ kind_word kind.0 = kind_said (word_at ws 2) kind.0 kind.1 in
+    let rows_are : word_at ws 3 ≡ decimal rows.0 = rows_said kind.0 (word_at ws 3) rows.0 canonical.rows rows.1 in
+    let key_is : word_at ws 4 ≡ codes "key=" ++ key_text mask.0 =
+    label_printed (codes "key=") (word_at ws 4) key.0 (key_text mask.0) key.1
+    (part_canonical (codes "key=") (word_at ws 4) key.0 IsCanonicalKey canonical.key key.1 mask.0 mask.1) in
+    let attr_is : word_at ws 5 ≡ codes "attr=" ++ attr_word weight.0 =
+    label_printed (codes "attr=") (word_at ws 5) attr.0 (attr_word weight.0) attr.1 (attr_in_said kind.0 attr.0 weight.0 weight.1) in
+    let filter_is : word_at ws 6 ≡ codes "filter=" ++ filter_text pattern.0 =
+    label_printed (codes "filter=") (word_at ws 6) filter.0 (filter_text pattern.0) filter.1
+    (part_canonical (codes "filter=") (word_at ws 6) filter.0 IsCanonicalFilter canonical.filter filter.1 pattern.0 pattern.1) in
+    let memory_is : word_at ws 7 ≡ codes "memory=" ++ decimal size.0 =
+    label_printed (codes "memory=") (word_at ws 7) memory.0 (decimal size.0) memory.1
+    (number_said memory.0 size.0 (part_canonical (codes "memory=") (word_at ws 7) memory.0 IsCanonicalNumber canonical.memory memory.1) size.1) in
+    printed_of ws (commands.Add (record {
+      name = name.0;
+      kind = kind.0;
+      rows = rows.0;
+      key = mask.0;
+      attr = weight.0;
+      filter = pattern.0;
+      size = size.0;
+    })) command made
+    (eight_words ws count.0 ∙ (λ i. first i ∷ name_is i ∷ kind_is i ∷ rows_are i ∷ key_is i ∷ attr_is i ∷ filter_is i ∷ memory_is i ∷ []))
+
+-- ---- the words of the other commands
+
+resize_words : (ws : Words) (command : Command) → IsBehind (codes "memory=") IsCanonicalNumber (word_at ws 2) → word_at ws 0 ≡ verb_word verbs.Resize
+    → resize_in ws ≡ Ok command → ws ≡ command_words command
+unfolding resize_in
+resize_words ws command canonical first e =
+    let last : List ℕ → List ℕ → Result Command LineFault =
+    λ memory name. ok_or (full_number memory) faults.Size >>= λ size. Ok (commands.Resize name size) in
+    let named : Words → List ℕ → Result Command LineFault = λ ws memory. ok_or (name_in (word_at ws 1)) faults.Name >>= last memory in
+    let labelled : Words → Result Command LineFault = λ ws. ok_or (after_label (codes "memory=") (word_at ws 2)) faults.Words >>= named ws in
+    let count = count_bind 3 ws labelled command e in
+    let memory = some_bind (after_label (codes "memory=") (word_at ws 2)) faults.Words (named ws) command count.1 in
+    let name = some_bind (name_in (word_at ws 1)) faults.Name (last memory.0) command memory.2 in
+    let size = some_bind (full_number memory.0) faults.Size (λ (size : ℕ). Ok (commands.Resize name.0 size)) command name.2 in
+    let made : commands.Resize name.0 size.0 ≡ command = cc (size.2) in
+    let name_is : word_at ws 1 ≡ name.0 = name_said (word_at ws 1) name.0 name.1 in
+    let memory_is : word_at ws 2 ≡ codes "memory=" ++ decimal size.0 =
+    label_printed (codes "memory=") (word_at ws 2) memory.0 (decimal size.0) memory.1
+    (number_said memory.0 size.0 (part_canonical (codes "memory=") (word_at ws 2) memory.0 IsCanonicalNumber canonical memory.1) size.1) in
+    printed_of ws (commands.Resize name.0 size.0) command made (three_words ws count.0 ∙ (λ i. first i ∷ name_is i ∷ memory_is i ∷ []))
+
+query_words : (ws : Words) (command : Command) → IsCanonicalFilter (word_at ws 2) → word_at ws 0 ≡ verb_word verbs.Query
+    → query_in ws ≡ Ok command → ws ≡ command_words command
+unfolding query_in
+query_words ws command canonical first e =
+    let last : Words → List ℕ → Result Command LineFault =
+    λ ws name. or_fault faults.At (filter_in (word_at ws 2)) >>= λ pattern. Ok (commands.Query name pattern) in
+    let named : Words → Result Command LineFault = λ ws. ok_or (name_in (word_at ws 1)) faults.Name >>= last ws in
+    let count = count_bind 3 ws named command e in
+    let name = some_bind (name_in (word_at ws 1)) faults.Name (last ws) command count.1 in
+    let pattern = ok_bind (filter_in (word_at ws 2)) faults.At (λ (pattern : Pattern). Ok (commands.Query name.0 pattern)) command name.2 in
+    let made : commands.Query name.0 pattern.0 ≡ command = cc (pattern.2) in
+    let name_is : word_at ws 1 ≡ name.0 = name_said (word_at ws 1) name.0 name.1 in
+    let filter_is : word_at ws 2 ≡ filter_text pattern.0 = canonical pattern.0 pattern.1 in
+    printed_of ws (commands.Query name.0 pattern.0) command made (three_words ws count.0 ∙ (λ i. first i ∷ name_is i ∷ filter_is i ∷ []))
+
+packets_words : (ws : Words) (command : Command) → IsCanonicalNumber (word_at ws 1) → word_at ws 0 ≡ verb_word verbs.Packets
+    → packets_in ws ≡ Ok command → ws ≡ command_words command
+unfolding packets_in
+packets_words ws command canonical first e =
+    let last : Words → Result Command LineFault =
+    λ ws. ok_or (full_number (word_at ws 1)) faults.Number >>= λ number. Ok (commands.Packets number) in
+    let count = count_bind 2 ws last command e in
+    let number = some_bind (full_number (word_at ws 1)) faults.Number (λ (number : ℕ). Ok (commands.Packets number)) command count.1 in
+    let made : commands.Packets number.0 ≡ command = cc (number.2) in
+    let number_is : word_at ws 1 ≡ decimal number.0 = number_said (word_at ws 1) number.0 canonical number.1 in
+    printed_of ws (commands.Packets number.0) command made (two_words ws count.0 ∙ (λ i. first i ∷ number_is i ∷ []))
+
+named_words : (verb : Verb) (make : List ℕ → Command) → ((name : List ℕ) → command_words (make name) ≡ verb_word verb ∷ name ∷ [])
+    → (ws : Words) (command : Command) → word_at ws 0 ≡ verb_word verb → named_in make ws ≡ Ok command → ws ≡ command_words command
+unfolding named_in
+named_words verb make printed ws command first e =
+    let last : Words → Result Command LineFault = λ ws. ok_or (name_in (word_at ws 1)) faults.Name >>= λ name. Ok (make name) in
+    let count = count_bind 2 ws last command e in
+    let name = some_bind (name_in (word_at ws 1)) faults.Name (λ (name : List ℕ). Ok (make name)) command count.1 in
+    let made : make name.0 ≡ command = cc (name.2) in
+    let name_is : word_at ws 1 ≡ name.0 = name_said (word_at ws 1) name.0 name.1 in
+    printed_of ws (make name.0) command made ((two_words ws count.0 ∙ (λ i. first i ∷ name_is i ∷ [])) ∙ sym (printed name.0))
+
+alone_words : (verb : Verb) (lone command : Command) → command_words lone ≡ verb_word verb ∷ []
+    → (ws : Words) → word_at ws 0 ≡ verb_word verb → alone_in lone ws ≡ Ok command → ws ≡ command_words command
+unfolding alone_in
+alone_words verb lone command printed ws first e =
+    let count = count_bind 1 ws (λ (ws : Words). Ok lone) command e in
+    let made : lone ≡ command = cc (count.1) in
+    printed_of ws lone command made ((one_word ws count.0 ∙ (λ i. first i ∷ [])) ∙ sym printed)
+
+verb_words : (verb : Verb) (ws : Words) (command : Command) → AreCanonicalOperands verb ws → word_at ws 0 ≡ verb_word verb
+    → command_by verb ws ≡ Ok command → ws ≡ command_words command
+verb_words verbs.Add ws command canonical first e = add_words ws command canonical first e
+verb_words verbs.Resize ws command canonical first e = resize_words ws command canonical first e
+verb_words verbs.Remove ws command canonical first e = named_words verbs.Remove commands.Remove (λ name. refl) ws command first e
+verb_words verbs.Release ws command canonical first e = named_words verbs.Release commands.Release (λ name. refl) ws command first e
+verb_words verbs.Packets ws command canonical first e = packets_words ws command canonical first e
+verb_words verbs.Run ws command canonical first e = alone_words verbs.Run commands.Run command refl ws first e
+verb_words verbs.Read ws command canonical first e = named_words verbs.Read commands.Read (λ name. refl) ws command first e
+verb_words verbs.Frozen ws command canonical first e = named_words verbs.Frozen commands.Frozen (λ name. refl) ws command first e
+verb_words verbs.Query ws command canonical first e = query_words ws command canonical first e
+verb_words verbs.Dist ws command canonical first e = named_words verbs.Dist commands.Dist (λ name. refl) ws command first e
+verb_words verbs.Card ws command canonical first e = named_words verbs.Card commands.Card (λ name. refl) ws command first e
+verb_words verbs.Show ws command canonical first e = alone_words verbs.Show commands.Show command refl ws first e
+verb_words verbs.Stat ws command canonical first e = alone_words verbs.Stat commands.Stat command refl ws first e
+
+words_printed : (ws : Words) (command : Command) → IfSome (verb_named (word_at ws 0)) (λ verb. AreCanonicalOperands verb ws)
+    → command_in ws ≡ Ok command → ws ≡ command_words command
+unfolding command_in
+words_printed ws command canonical e =
+    let verb = some_bind (verb_named (word_at ws 0)) faults.Command (λ (verb : Verb). command_by verb ws) command e in
+    verb_words verb.0 ws command (rw (verb.1) at canonical) (verb_said (word_at ws 0) verb.0 verb.1) verb.2
+
+-- ---- the line
+
+one_said : (found : Result Command LineFault) (command : Command)
+    → (at_line 1 (one found) >>= λ found. with_front found (Ok [])) ≡ Ok (command ∷ []) → found ≡ Ok command
+one_said (Ok found) command e = cc
+one_said (Err fault) command e = absurd (cc)
+
+line_said : (line : List ℕ) (command : Command) → list_all is_allowed line ≡ true
+    → (at_line 1 (plain_line_in line) >>= λ found. with_front found (Ok [])) ≡ Ok (command ∷ []) → command_in (words line) ≡ Ok command
+unfolding plain_line_in
+line_said line command allowed e =
+    elim (is_skipped line) as
+    (λ b. (at_line 1 (cond b (Ok []) (cond (list_all is_allowed line) (one (command_in (words line))) (Err faults.Byte)))
+    >>= λ found. with_front found (Ok [])) ≡ Ok (command ∷ []) → command_in (words line) ≡ Ok command) [
+      | true ↦ λ e. absurd (cc)
+      | false ↦ λ e. one_said (command_in (words line)) command (rw allowed at e)
+    ] e
+
+text_said : (text : List ℕ) (command : Command) → list_all is_printed text ≡ true → script_in text ≡ Ok (command ∷ []) → command_in (words text) ≡ Ok command
+unfolding script_in
+text_said text command printed e =
+    let allowed : list_all is_allowed text ≡ true = all_weaker is_printed is_allowed (λ c t. grind (arith, nat_tests, t)) text printed in
+    let free : free_of (λ b. b == 10) text ≡ true = all_weaker is_printed (λ c. not (c == 10)) (λ c t. grind (arith, nat_tests, t)) text printed in
+    elim (nat_lt script_limit (length text)) as
+    (λ b. cond b (Err (record { line = 0; kind = faults.TooLong })) (script_from 1 (parts 10 text)) ≡ Ok (command ∷ []) → command_in (words text) ≡ Ok command) [
+      | true ↦ λ e. absurd (cc)
+      | false ↦ λ e. line_said text command allowed (rw (split_last (λ b. b == 10) text free, no_return text printed) at e)
+    ] e
+
+-- a canonical text that is read as a command is what is printed of it
+pub canonical_printed : CanonicalIsPrinted
+unfolding command_text
+canonical_printed text command canonical e =
+    sym canonical.spaced
+    ∙ ap (join_with_byte 32) (words_printed (words text) command canonical.operands (text_said text command canonical.printed e))
