@@ -1,16 +1,16 @@
--- Taken blocks in order, and what a put and a removal change.
+-- PoolState blocks in order, and what a put and a removal change.
 use Rattle.std.proofs.Common.{◌≡◌, ℕ, zero, suc, ◌+◌, ◌*◌, ◌/◌, ◌<◌, ◌≤◌, ◌^◌, Bool, true, false, cond, List, [], ◌∷◌, length, refl, ap, sym, ◌∙◌, arith, inl, inr, ⊎_elim, subst}
 use Rattle.std.specs.Prelude.{◌&&◌, ◌||◌, ◌⊎◌, ◌==◌, nat_le, Contains, slice_index_or}
 use Rattle.std.specs.List.{list_all, All}
 use Rattle.std.proofs.Math.Path.{ap₂}
+use Rattle.std.proofs.Math.Pow.{pow_mono}
 use Rattle.std.proofs.lemmas.Bool.Decides.{nat_tests}
 use Rattle.std.proofs.lemmas.Bool.{false≢true}
 use Rattle.std.proofs.lemmas.Nat.{pow_pos, shr_split}
 use Rattle.std.proofs.lemmas.List.Elements.{All-cons, All-head, All-tail}
 use Rattle.addr_translate.specs.Blocks.{Block, IsAligned}
-use Rattle.partition_pool.specs.Free.{are_apart, is_free, block_at, put_by_base, by_base}
-use Rattle.partition_pool.specs.Taken.{InOrder, is_block, without}
-use Rattle.partition_pool.specs.Tree.{Becomes}
+use Rattle.partition_pool.specs.Regions.{are_apart, is_free, block_at, put_by_base, by_base, InOrder, is_block, without}
+use Rattle.partition_pool.specs.Kept.{Becomes}
 
 and_true : (a b : Bool) → (a && b) ≡ true → (a ≡ true) × (b ≡ true)
 and_true true b h = (refl, h)
@@ -106,6 +106,23 @@ is_inside least low high block (other ∷ others) order h =
     let from = order.0 in
     record { above = omega arith; big = rest.big; below = rest.below })
     (contains_cons other block others h)
+
+-- each has at least the least size
+pub few_in_order : (least low high : ℕ) (blocks : List Block) → InOrder least low high blocks → low + length blocks * 2 ^ least ≤ high
+few_in_order least low high [] order = omega arith
+few_in_order least low high (block ∷ blocks) order =
+    let rest = few_in_order least (block.base + 2 ^ block.bits) high blocks order.2 in
+    let big = pow_mono {i = least} {j = block.bits} order.1 in
+    grind arith
+
+pub length-put_by_base : (block : Block) (blocks : List Block) → length (put_by_base block blocks) ≡ suc (length blocks)
+length-put_by_base block [] = refl
+length-put_by_base block (other ∷ others) = by (length-put_by_base block others) (nat_le block.base other.base)
+  where
+    by : length (put_by_base block others) ≡ suc (length others)
+        → (b : Bool) → length (cond b (block ∷ other ∷ others) (other ∷ put_by_base block others)) ≡ suc (suc (length others))
+    by rest true = refl
+    by rest false = ap suc rest
 
 -- ---- what is free
 
@@ -237,7 +254,7 @@ contains_put_other block x (other ∷ others) h = by (λ k. contains_put_other b
         (λ (k : Contains others x). cons_contains other x (put_by_base block others) (rest k))
         (contains_cons other x others h)
 
--- by base, as `Taken` of the records is
+-- by base, as `PoolState` of the records is
 pub contains_by_base : (x : Block) (blocks : List Block) → Contains blocks x → Contains (by_base blocks) x
 contains_by_base x [] h = h
 contains_by_base x (other ∷ others) h =
