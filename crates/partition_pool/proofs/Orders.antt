@@ -12,7 +12,7 @@ use Rattle.addr_translate.specs.Blocks.{Block, IsAligned}
 use Rattle.partition_pool.specs.Regions.{are_apart, is_free, block_at, put_by_base, by_base, InOrder, is_block, without}
 use Rattle.partition_pool.specs.Kept.{Becomes}
 
-and_true : (a b : Bool) → (a && b) ≡ true → (a ≡ true) × (b ≡ true)
+pub and_true : (a b : Bool) → (a && b) ≡ true → (a ≡ true) × (b ≡ true)
 and_true true b h = (refl, h)
 and_true false b h = absurd (false≢true h)
 
@@ -31,7 +31,7 @@ contains_cons x y xs h = by h.0 h.1 h.2
 pub contains_none : (y : Block) → Contains [] y → ⊥
 contains_none y h = let less : h.0 < 0 = h.1 in omega arith
 
-is_block_true : (one two : Block) → is_block one two ≡ true → one ≡ two
+pub is_block_true : (one two : Block) → is_block one two ≡ true → one ≡ two
 is_block_true one two h =
     let t = and_true (one.base == two.base) (one.bits == two.bits) h in
     let e : one.base ≡ two.base = (let f = t.0 in grind (arith, nat_tests)) in
@@ -39,7 +39,7 @@ is_block_true one two h =
     let made : ℕ → ℕ → Block = λ m n. record { base = m; bits = n } in
     ap₂ made e g
 
-is_block_same : (one two : Block) → one ≡ two → is_block one two ≡ true
+pub is_block_same : (one two : Block) → one ≡ two → is_block one two ≡ true
 is_block_same one two e =
     let f : one.base ≡ two.base = ap (λ (b : Block). b.base) e in
     let g : one.bits ≡ two.bits = ap (λ (b : Block). b.bits) e in

@@ -149,6 +149,9 @@ impl Pool {
         requires least { least_bits self.old ≤ bits }
         requires most { bits ≤ self.old.bits }
         ensures lease { result ≡ option_map (holding_of self.old) (free_block self.old.taken self.old.bits bits) }
+        ensures size { IfSome result (λ l. l.region.bits ≡ bits) }
+        ensures partition { IfSome result (λ l. IsPartition (least_bits self.old) self.old.bits l.region) }
+        ensures free { IfSome result (λ l. is_free self.old.taken l.region ≡ true) }
         ensures taken { IfSome result (λ l. self.new ≡ record self.old { taken = put_by_base l.region self.old.taken }) }
         ensures few { IfSome result (λ _. length self.old.taken < 2 ^ self.old.split) }
         ensures none { IfNone result (self.new ≡ self.old) }
@@ -224,3 +227,6 @@ impl Pool {
         );
     }
 }
+
+#[cfg(test)]
+mod tests;
