@@ -10,11 +10,11 @@ ghost use Rattle.flymon_engine.specs.Opening.{HasInputCause, IsReadStop, IsJudge
 ghost use Rattle.flymon_engine.specs.Expected.{expected_for, expected_after, word_for, JudgesAs, ReadsAs, OpensAs, StopsFormed, StopsInPlace};
 ghost use Rattle.flymon_engine.specs.Views.{script_view, passage_view, expected_view};
 
-use crate::frames::{Frames, frames_of};
+use crate::frames::{Frames, frames_of, is_failed_read};
 use crate::session::Session;
 use crate::stop::Stop;
 use crate::words::{Names, names_of};
-use capture_read::{BeginFail, Capture, CaptureFault};
+use capture_read::{BeginFail, Capture};
 use fm_io::{Failed, Files, ReadFail, read_whole};
 use std::alloc::Global;
 use task_lang::{ParseFail, SCRIPT_LIMIT, parse_script};
@@ -97,12 +97,13 @@ fn frames_from<F: Files>(alloc: Global, files: &mut F, name: &str) -> Result<Fra
         return Err(Stop::Input { slot: 2 });
     }
     match Capture::begin(alloc, files) {
-        Ok(capture) => match frames_of(alloc, capture, files) {
-            Ok(frames) => Ok(frames),
-            Err(_) => Err(Stop::Memory),
-        },
-        Err(BeginFail::Fault(CaptureFault::Read)) => Err(Stop::Input { slot: 2 }),
-        Err(BeginFail::Fault(fault)) => Err(Stop::Capture(fault)),
+        Ok(capture) => frames_of(alloc, capture, files),
+        Err(BeginFail::Fault(fault)) => {
+            if is_failed_read(fault) {
+                return Err(Stop::Input { slot: 2 });
+            }
+            Err(Stop::Capture(fault))
+        }
         Err(BeginFail::Memory) => Err(Stop::Memory),
     }
 }
