@@ -104,7 +104,8 @@ fn frames_from<F: Files>(alloc: Global, files: &mut F, name: &str) -> Result<Fra
     match Capture::begin(alloc, files) {
         Ok(capture) => match frames_of(alloc, capture, files) {
             Ok(frames) => Ok(frames),
-            Err(_) => Err(Stop::Memory),
+            Err(ReadFail::Memory) => Err(Stop::Memory),
+            Err(ReadFail::Failed) => Err(Stop::Input { slot: 2 }),
         },
         Err(BeginFail::Fault(CaptureFault::Read)) => Err(Stop::Input { slot: 2 }),
         Err(BeginFail::Fault(fault)) => Err(Stop::Capture(fault)),
