@@ -107,7 +107,7 @@ more_gathered reading now later packets packet a b c so_far next =
     slot_then a b c
     (λ x y z p q.
     let found : packet_by (next_in x.bytes now) ≡ Ok (Some packet) =
-        ap (λ (l : List ℕ). packet_by (next_in l now)) (sym p.bytes) ∙ q.next.0 in
+    ap (λ (l : List ℕ). packet_by (next_in l now)) (sym p.bytes) ∙ q.next.0 in
     let on : later ≡ after_next x.bytes now = q.next.1 ∙ ap (λ (l : List ℕ). after_next l now) p.bytes in
     record {
       bytes = q.bytes ∙ p.bytes;
@@ -124,7 +124,7 @@ all_gathered reading now later frames a b c none so_far next =
     slot_then a b c
     (λ x y z p q.
     let found : packet_by (next_in x.bytes now) ≡ Ok None =
-        ap (λ (l : List ℕ). packet_by (next_in l now)) (sym p.bytes) ∙ q.next.0 in
+    ap (λ (l : List ℕ). packet_by (next_in l now)) (sym p.bytes) ∙ q.next.0 in
     record {
       bytes = q.bytes ∙ p.bytes;
       passage = ap (λ f. let passage : Passage = record { packets = frames.packets.items; fault = f } in passage) none
@@ -150,8 +150,8 @@ damage_gathered reading now later frames fault a b c is other so_far next =
     slot_then a b c
     (λ x y z p q.
     let found : packet_by (next_in x.bytes now) ≡ Err fault =
-        ap (λ (l : List ℕ). packet_by (next_in l now)) (sym p.bytes)
-        ∙ is_next_fault fault (packet_by (next_in y.bytes now)) later (after_next y.bytes now) other q.next in
+    ap (λ (l : List ℕ). packet_by (next_in l now)) (sym p.bytes)
+    ∙ is_next_fault fault (packet_by (next_in y.bytes now)) later (after_next y.bytes now) other q.next in
     record {
       bytes = q.bytes ∙ p.bytes;
       passage = ap (λ f. let passage : Passage = record { packets = frames.packets.items; fault = f } in passage) is

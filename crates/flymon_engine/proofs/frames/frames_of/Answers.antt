@@ -14,8 +14,8 @@ records-preserved g c =
     let s1 = (f.slots c.records.files).capture in
     let s2 = (f.slots c.next_packet.new.files).capture in
     let next : SlotMoves (ComesNext c.records.capture (Ok (Some c.in-Ok-Some.packet)) c.next_packet.new.capture) s1 s2 =
-        subst (λ (x : Result (Option Packet) CaptureFault). SlotMoves (ComesNext c.records.capture x c.next_packet.new.capture) s1 s2) found
-        c.next_packet.ensures.slot in
+    subst (λ (x : Result (Option Packet) CaptureFault). SlotMoves (ComesNext c.records.capture x c.next_packet.new.capture) s1 s2) found
+    c.next_packet.ensures.slot in
     record {
       later = search rules;
       last = search rules;
@@ -45,7 +45,7 @@ returns-in_default-fault g c =
           (record { packets = c.records.packets; fault = Some c.in-Err.fault }) c.in-Err.fault
           (f.slots c.args.files.now).capture s1 s2 refl c.in_default-fault.not-Read c.records.invariant.slot
           (subst (λ (x : Result (Option Packet) CaptureFault). SlotMoves (ComesNext c.records.capture x c.next_packet.new.capture) s1 s2) c.in-Err.is
-              c.next_packet.ensures.slot);
+          c.next_packet.ensures.slot);
       others = search rules;
     }
 
@@ -58,4 +58,4 @@ returns-in-Ok-None-clause-slot g c =
     all_gathered c.args.capture c.records.capture c.next_packet.new.capture (record { packets = c.records.packets; fault = None })
     (f.slots c.args.files.now).capture s1 s2 refl c.records.invariant.slot
     (subst (λ (x : Result (Option Packet) CaptureFault). SlotMoves (ComesNext c.records.capture x c.next_packet.new.capture) s1 s2) found
-        c.next_packet.ensures.slot)
+    c.next_packet.ensures.slot)
