@@ -11,3 +11,4 @@ pub mod Script
 pub mod Views
 pub mod Steps
 pub mod Words
+pub mod Gathering
