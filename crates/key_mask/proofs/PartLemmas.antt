@@ -15,19 +15,21 @@ use Rattle.key_mask.specs.Masks.{AreLengths, AreParts, length_in, lengths_of}
 
 -- ---- fields
 
+-- a field stands at its number
+pub at_number : (field : Field) → get_or fields (field_number field) SrcIp ≡ field
+at_number SrcIp = refl
+at_number DstIp = refl
+at_number SrcPort = refl
+at_number DstPort = refl
+at_number Proto = refl
+at_number Tos = refl
+at_number EtherType = refl
+at_number SrcIp6 = refl
+at_number DstIp6 = refl
+
 -- a field is that of its number
 pub same_field : (one other : Field) → field_number one ≡ field_number other → one ≡ other
-same_field one other e = sym (numbered one) ∙ ap (λ n. get_or fields n SrcIp) e ∙ numbered other where
-  numbered : (field : Field) → get_or fields (field_number field) SrcIp ≡ field
-  numbered SrcIp = refl
-  numbered DstIp = refl
-  numbered SrcPort = refl
-  numbered DstPort = refl
-  numbered Proto = refl
-  numbered Tos = refl
-  numbered EtherType = refl
-  numbered SrcIp6 = refl
-  numbered DstIp6 = refl
+same_field one other e = sym (at_number one) ∙ ap (λ n. get_or fields n SrcIp) e ∙ at_number other
 
 pub number_below : (field : Field) → field_number field < FIELD_COUNT
 number_below SrcIp = omega arith

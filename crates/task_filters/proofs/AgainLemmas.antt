@@ -26,13 +26,14 @@ use Rattle.key_mask.proofs.ValueLemmas.{value_again, value_pass}
 use Rattle.key_mask.proofs.NumberLemmas.{digit_pass}
 use Rattle.key_mask.proofs.VectorLemmas.{bytes_back}
 use Rattle.task_filters.specs.Filters.{Pattern, IsFilter}
+use Rattle.task_filters.specs.Laws.{FilterAgain}
 use Rattle.task_filters.specs.Printing.{filter_text}
 use Rattle.task_filters.specs.Terms.{filter_in, is_colon, kept_terms, no_terms, terms_in, with_both, with_term}
 use Rattle.task_filters.proofs.ByteLemmas.{and_zeros, field_absent, field_small, length-bytes_at, value_fits, value_small}
 
 -- ---- an item is read as what it was printed of
 
-cut_colon : (field : Field) (rest : List ℕ) → (front is_colon (name_of field ++ 58 ∷ rest) ≡ name_of field) × (back is_colon (name_of field ++ 58 ∷ rest) ≡ Some rest)
+pub cut_colon : (field : Field) (rest : List ℕ) → (front is_colon (name_of field ++ 58 ∷ rest) ≡ name_of field) × (back is_colon (name_of field ++ 58 ∷ rest) ≡ Some rest)
 cut_colon SrcIp rest = (refl, refl)
 cut_colon DstIp rest = (refl, refl)
 cut_colon SrcPort rest = (refl, refl)
@@ -166,7 +167,7 @@ filter_steps pattern filter =
       ),
     )
 
-reads_all : (pattern : Pattern) → IsFilter pattern → with_items with_term 0 no_terms (item_texts (Some pattern.value) pattern.mask fields) ≡ Ok pattern
+pub reads_all : (pattern : Pattern) → IsFilter pattern → with_items with_term 0 no_terms (item_texts (Some pattern.value) pattern.mask fields) ≡ Ok pattern
 reads_all pattern filter =
     let none_value : first_lengths pattern.value 0 ≡ replicate {A = ℕ} 48 0 = first_none pattern.value 48 filter.long in
     let none_mask : first_lengths pattern.mask 0 ≡ no_lengths = first_none pattern.mask 9 filter.known.whole in
@@ -179,7 +180,7 @@ reads_all pattern filter =
 
 -- ---- the commas part the items
 
-term_plain : (pattern : Pattern) → IsFilter pattern → (field : Field) → slice_index pattern.mask (field_number field) ≢ 0
+pub term_plain : (pattern : Pattern) → IsFilter pattern → (field : Field) → slice_index pattern.mask (field_number field) ≢ 0
     → list_all is_plain (item_text (Some pattern.value) field (slice_index pattern.mask (field_number field))) ≡ true
 term_plain pattern filter field some =
     let n : ℕ = slice_index pattern.mask (field_number field) in
@@ -216,7 +217,7 @@ first_not_all SrcIp6 rest (item ∷ items) = refl
 first_not_all DstIp6 rest (item ∷ items) = refl
 
 -- items of fields are not the word `all`
-not_all : (values : Option (List ℕ)) (lengths : List ℕ) (fields : List Field) → bytes_eq (join_with_byte 44 (item_texts values lengths fields)) (codes "all") ≡ false
+pub not_all : (values : Option (List ℕ)) (lengths : List ℕ) (fields : List Field) → bytes_eq (join_with_byte 44 (item_texts values lengths fields)) (codes "all") ≡ false
 not_all values lengths [] = refl
 not_all values lengths (field ∷ fields) =
     let n : ℕ = slice_index lengths (field_number field) in
@@ -229,7 +230,7 @@ not_all values lengths (field ∷ fields) =
 
 -- ---- the whole
 
-some_terms : (items : List (List ℕ)) (pattern : Pattern) → with_items with_term 0 no_terms items ≡ Ok pattern → pattern.mask ≢ no_lengths → 0 < length items
+pub some_terms : (items : List (List ℕ)) (pattern : Pattern) → with_items with_term 0 no_terms items ≡ Ok pattern → pattern.mask ≢ no_lengths → 0 < length items
 some_terms [] pattern h stands = let same : no_terms ≡ pattern = cc h in absurd (stands (sym (ap (λ p. p.mask) same)))
 some_terms (item ∷ items) pattern h stands = omega arith
 
@@ -257,23 +258,19 @@ terms_again pattern filter =
     rw (t, not_all (Some pattern.value) pattern.mask fields, back) reads)
     (cases_Bool (bytes_eq pattern.mask no_lengths))
 
-pub filter_again : (pattern : Pattern) → IsFilter pattern → filter_in (filter_text pattern) ≡ Ok pattern
+pub filter_again : FilterAgain
 filter_again pattern filter =
     ap (λ read. read >>= λ terms. Ok (kept_terms terms)) (terms_again pattern filter)
     ∙ ap (λ bytes. Ok (record { value = bytes; mask = pattern.mask })) filter.kept
 
--- the two forms of a text
-pub empty_again : (pattern : Pattern) (bytes : List ℕ) → IsFilter pattern → pattern.mask ≡ no_lengths → bytes ≡ codes "all" → filter_in bytes ≡ Ok pattern
-unfolding filter_text
-empty_again pattern bytes filter none is =
-    let t : bytes_eq pattern.mask no_lengths ≡ true = (bytes_eq-Decides pattern.mask no_lengths).1 none in
-    let text : filter_text pattern ≡ codes "all" = rw t refl in
-    ap filter_in (is ∙ sym text) ∙ filter_again pattern filter
+-- ---- the two forms of a text
 
-pub items_filter_again : (pattern : Pattern) (bytes : List ℕ) → IsFilter pattern → pattern.mask ≢ no_lengths → bytes ≡ items_text (Some pattern.value) pattern.mask
-    → filter_in bytes ≡ Ok pattern
+pub text_empty : (pattern : Pattern) → pattern.mask ≡ no_lengths → filter_text pattern ≡ codes "all"
 unfolding filter_text
-items_filter_again pattern bytes filter some is =
+text_empty pattern none = let t : bytes_eq pattern.mask no_lengths ≡ true = (bytes_eq-Decides pattern.mask no_lengths).1 none in rw t refl
+
+pub text_items : (pattern : Pattern) → pattern.mask ≢ no_lengths → filter_text pattern ≡ items_text (Some pattern.value) pattern.mask
+unfolding filter_text
+text_items pattern some =
     let t : bytes_eq pattern.mask no_lengths ≡ false = false_from_ne_true (bytes_eq pattern.mask no_lengths) (λ e. some ((bytes_eq-Decides pattern.mask no_lengths).0 e)) in
-    let text : filter_text pattern ≡ items_text (Some pattern.value) pattern.mask = rw t refl in
-    ap filter_in (is ∙ sym text) ∙ filter_again pattern filter
+    rw t refl

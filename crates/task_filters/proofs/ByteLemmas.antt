@@ -103,7 +103,7 @@ field_small bytes field small =
     are_bytes (bytes_at bytes field)
     (take_small (start_of field + size_of field - start_of field) (drop (start_of field) bytes) (drop_small (start_of field) bytes small))
 
-widths : (field : Field) → 256 ^ size_of field ≡ 2 ^ width_of field
+pub widths : (field : Field) → 256 ^ size_of field ≡ 2 ^ width_of field
 widths SrcIp = refl
 widths DstIp = refl
 widths SrcPort = refl

@@ -1,4 +1,5 @@
 pub mod AgainLemmas
 pub mod ByteLemmas
 pub mod FilterLemmas
+pub mod OnlyLemmas
 pub mod Values

@@ -125,9 +125,9 @@ unfolding filter_text items_text value_at digits group_text groups_before ipv6_t
 one_ipv6_net = refl
 
 a_kind : filter_text (record {
-      value = replicate 12 0 ++ 6 ∷ 0 ∷ 134 ∷ 221 ∷ replicate 32 0;
-      mask = 0 ∷ 0 ∷ 0 ∷ 0 ∷ 8 ∷ 0 ∷ 16 ∷ 0 ∷ 0 ∷ [];
-    })
+  value = replicate 12 0 ++ 6 ∷ 0 ∷ 134 ∷ 221 ∷ replicate 32 0;
+  mask = 0 ∷ 0 ∷ 0 ∷ 0 ∷ 8 ∷ 0 ∷ 16 ∷ 0 ∷ 0 ∷ [];
+})
     ≡ codes "proto:6,ethertype:0x86dd"
 unfolding filter_text items_text value_at hex_text digits
 a_kind = refl

@@ -1,3 +1,4 @@
 pub mod Filters
+pub mod Laws
 pub mod Printing
 pub mod Terms

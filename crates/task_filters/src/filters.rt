@@ -3,7 +3,7 @@ ghost use Rattle.std.specs.Prelude.{◌≡◌, ◌≤◌, ◌↔◌, IsTrue, IfO
 ghost use Rattle.key_mask.specs.Bytes.{and_bytes};
 ghost use Rattle.task_filters.specs.Filters.{IsFilter, IsVector, Matches, passes, AreDisjoint, are_disjoint};
 ghost use Rattle.task_filters.specs.Printing.{filter_text, longest_filter};
-ghost use Rattle.task_filters.specs.Terms.{filter_in};
+ghost use Rattle.task_filters.specs.Terms.{filter_in, is_canonical_filter};
 
 use crate::terms::terms_of;
 use key_mask::{FieldFault, KEY_BYTES, KeyVec, Line, Mask, eight_at, put_items, xor_of};
@@ -48,6 +48,7 @@ impl Filter {
     pub fn put(&self) -> Line
         ensures text { result.bytes ≡ filter_text self.now }
         ensures again { filter_in result.bytes ≡ Ok self.now }
+        ensures canonical { IsTrue (is_canonical_filter result.bytes) }
         ensures short { length result.bytes ≤ longest_filter }
         ensures keeps { IsFilter self.now }
     {

@@ -2,6 +2,7 @@
 #![tactic(auto)]
 
 mod filters;
+pub mod laws;
 mod terms;
 
 pub use filters::Filter;
