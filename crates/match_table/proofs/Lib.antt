@@ -1,1 +1,6 @@
+pub mod ChangeLemmas
+pub mod FindLemmas
+pub mod OrderLemmas
+pub mod RunLemmas
+pub mod TableLemmas
 pub mod Values
