@@ -349,3 +349,15 @@ fn blocks_stop_within(rt: HostRuntime) -> Result<(), Fail> {
     }
     Ok(())
 }
+
+#[test]
+fn view_of_four_arrays(rt: HostRuntime) -> Result<(), Fail> {
+    let view = sizes_view().ok_or("a view")?;
+    assert_eq!(rt; view.shape(), SHAPE);
+    assert_eq!(rt; view.count(), 2);
+    assert_eq!(rt; view.unit(1, 1), None);
+    assert_eq!(rt; view.free_count(3), 7);
+    assert_eq!(rt; view.largest(3), 4);
+    assert_eq!(rt; view.live_rows(3), 1);
+    Ok(())
+}
