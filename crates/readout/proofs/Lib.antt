@@ -4,4 +4,5 @@ mod CellLemmas
 mod DistLemmas
 mod PieceLemmas
 mod QueryLemmas
+mod TwoTasksLemmas
 mod PlacedTaskLemmas

@@ -11,6 +11,8 @@ mod pieces;
 mod places;
 mod query;
 mod readout;
+#[cfg(test)]
+mod tests;
 mod views;
 
 pub use faults::ReadFault;
