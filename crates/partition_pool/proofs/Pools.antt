@@ -92,7 +92,6 @@ put_pool bits least split starts nodes new region pool is aligned inside free sa
     let M : Block → Type 0 = λ block. Marks bits least block false nodes new in
     record {
       least_array = pool.least_array;
-      most_array = pool.most_array;
       least_split = pool.least_split;
       most_split = pool.most_split;
       least_is = pool.least_is;
@@ -117,7 +116,6 @@ drop_pool bits least split starts nodes new region pool is taken same marks =
     let M : Block → Type 0 = λ block. Marks bits least block true nodes new in
     record {
       least_array = pool.least_array;
-      most_array = pool.most_array;
       least_split = pool.least_split;
       most_split = pool.most_split;
       least_is = pool.least_is;
@@ -166,12 +164,12 @@ none_levels array_bits least n room = λ b i from to whole lt.
     ∙ sym (node_within array_bits 0 [] (block_at array_bits 0 ∷ []) false least b i (take_becomes (block_at array_bits 0) []) from
     (lies_in_range b i array_bits 0 whole (omega arith) (omega arith)))
 
-pub new_pool : (bits least split : ℕ) (starts nodes new : List ℕ) → 5 ≤ bits → bits ≤ 20 → 5 ≤ split → split ≤ 10 → least ≡ bits - split
+pub new_pool : (bits least split : ℕ) (starts nodes new : List ℕ) → 5 ≤ bits → 5 ≤ split → split ≤ 10 → least ≡ bits - split
     → starts ≡ replicate (2 ^ (bits - least)) 0 → nodes ≡ replicate (2 * 2 ^ (bits - least) - 1) 0 → length new ≡ length nodes
     → length nodes + 1 ≡ 2 ^ (bits - least + 1)
     → Marks bits least (block_at bits 0) true nodes new
     → IsKept bits least split starts new
-new_pool bits least split starts nodes new a b c d is s n same room marks =
+new_pool bits least split starts nodes new a c d is s n same room marks =
     let none : blocks_from least 0 starts ≡ [] = ap (blocks_from least 0) s ∙ blocks_none least 0 (2 ^ (bits - least)) in
     let B : List Block → Type 0 = λ blocks. HasLevels bits least blocks least (bits + 1) new in
     let O : List Block → Type 0 = λ blocks. ArePartitions least bits blocks in
@@ -179,7 +177,6 @@ new_pool bits least split starts nodes new a b c d is s n same room marks =
     let count : length nodes ≡ 2 * 2 ^ (bits - least) - 1 = ap length n ∙ length_same (2 * 2 ^ (bits - least) - 1) in
     record {
       least_array = a;
-      most_array = b;
       least_split = c;
       most_split = d;
       least_is = is;

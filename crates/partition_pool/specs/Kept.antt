@@ -57,7 +57,6 @@ MarksAbove array_bits least region old new =
 -- the numbers of a pool are in the limits, and starts and nodes are those of one taken list
 pub record IsKept (array_bits least split : ℕ) (starts nodes : List ℕ) : Type 0 where
   pub least_array : 5 ≤ array_bits
-  pub most_array : array_bits ≤ 20
   pub least_split : 5 ≤ split
   pub most_split : split ≤ 10
   pub least_is : least ≡ array_bits - split

@@ -14,7 +14,7 @@ returns-clause-size c =
     let most = rw (← c.self.view_is) at c.requires.most in
     let least = c.self.invariant.least_is in
     if_found (λ (r : Block). r.bits ≡ c.args.bits) c.least_free.result
-    (λ r found. (is_found taken c.self.inside.levels.least c.self.inside.levels.array_bits c.args.bits r (omega arith) most c.self.invariant.most_array (sym is ∙ found)).size)
+    (λ r found. (is_found taken c.self.inside.levels.least c.self.inside.levels.array_bits c.args.bits r (omega arith) most c.self.inside.levels.small (sym is ∙ found)).size)
 
 pub returns-clause-partition : goal.returns-clause-partition
 returns-clause-partition c =
@@ -28,7 +28,7 @@ returns-clause-partition c =
     (if_found (λ (r : Block). IsPartition (c.self.inside.levels.array_bits - c.self.inside.split) c.self.inside.levels.array_bits r) c.least_free.result
     (λ r found.
     let P : ℕ → Type 0 = λ l. IsPartition l c.self.inside.levels.array_bits r in
-    subst P least (is_found taken c.self.inside.levels.least c.self.inside.levels.array_bits c.args.bits r (omega arith) most c.self.invariant.most_array (sym is ∙ found)).partition))
+    subst P least (is_found taken c.self.inside.levels.least c.self.inside.levels.array_bits c.args.bits r (omega arith) most c.self.inside.levels.small (sym is ∙ found)).partition))
 
 pub returns-clause-free : goal.returns-clause-free
 returns-clause-free c =
@@ -40,4 +40,4 @@ returns-clause-free c =
     let least = c.self.invariant.least_is in
     rw (← c.self.view_is)
     (if_found (λ (r : Block). is_free (blocks_from c.self.inside.levels.least 0 c.self.inside.starts.items) r ≡ true) c.least_free.result
-    (λ r found. (is_found taken c.self.inside.levels.least c.self.inside.levels.array_bits c.args.bits r (omega arith) most c.self.invariant.most_array (sym is ∙ found)).free))
+    (λ r found. (is_found taken c.self.inside.levels.least c.self.inside.levels.array_bits c.args.bits r (omega arith) most c.self.inside.levels.small (sym is ∙ found)).free))

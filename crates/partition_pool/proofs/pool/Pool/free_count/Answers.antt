@@ -10,13 +10,13 @@ use Rattle.partition_pool.proofs.pool.Pool.free_count.Goals as goal
 pub taken_size-requires-clause-few : goal.taken_size-requires-clause-few
 taken_size-requires-clause-few c =
     let few = starts_fit c.self.inside.levels.least 0 (2 ^ c.self.inside.levels.array_bits) 0 c.self.inside.starts.items c.self.invariant.taken.order in
-    let most = pow_mono {i = c.self.inside.levels.array_bits} {j = 20} c.self.invariant.most_array in
+    let most = pow_mono {i = c.self.inside.levels.array_bits} {j = 20} c.self.inside.levels.small in
     omega (arith, few, most, ap (sum_by size_of) c.as_slice.ensures.value)
 
 pub taken_size-requires-clause-each : goal.taken_size-requires-clause-each
 taken_size-requires-clause-each c =
     All-same (λ s. s ≤ 21) c.as_slice.result.now c.self.inside.starts.items c.as_slice.ensures.value
-    (starts_small c.self.inside.levels.least 0 0 (2 ^ c.self.inside.levels.array_bits) c.self.inside.starts.items c.self.invariant.taken.order (pow_mono {i = c.self.inside.levels.array_bits} {j = 20} c.self.invariant.most_array))
+    (starts_small c.self.inside.levels.least 0 0 (2 ^ c.self.inside.levels.array_bits) c.self.inside.starts.items c.self.invariant.taken.order (pow_mono {i = c.self.inside.levels.array_bits} {j = 20} c.self.inside.levels.small))
 
 pub overflow_sub-result : goal.overflow_sub-result
 overflow_sub-result c =

@@ -11,4 +11,4 @@ size_told-requires c =
     let N : List ℕ → Type 0 = λ xs. IsTree c.self.inside.levels.array_bits c.self.inside.levels.least taken xs in
     let e = c.root.ensures taken (subst N (sym c.as_slice.ensures.value) c.self.invariant.levels) in
     let f = node_le taken c.self.inside.levels.least c.self.inside.levels.array_bits 0 (omega (arith, c.self.invariant.least_is)) in
-    omega (arith, e, f, c.self.invariant.most_array)
+    omega (arith, e, f, c.self.inside.levels.small)

@@ -36,7 +36,7 @@ invariant_of-result c =
     let marks = subst M c.as_mut_slice.ensures.value c.mark.ensures in
     let same : length c.mark.new.nodes ≡ length c.in_ok-nodes.nodes.items = c.mark.auto.nodes ∙ ap length c.as_mut_slice.ensures.value in
     let made = new_pool c.args.bits c.saturating_sub.result c.args.split c.in_ok-starts.starts.items c.in_ok-nodes.nodes.items c.mark.new.nodes
-    c.requires.least c.requires.most c.requires.least_split c.requires.most_split c.saturating_sub.ensures starts nodes same room marks in
+    c.requires.least c.requires.least_split c.requires.most_split c.saturating_sub.ensures starts nodes same room marks in
     let X : List ℕ → Type 0 = λ xs. IsKept c.args.bits c.saturating_sub.result c.args.split c.in_ok-starts.starts.items xs in
     let n : length c.mark.new.nodes ≡ c.in_ok-nodes.nodes.len = search rules in
     subst X (sym (whole_again c.in_ok-nodes.nodes.len c.mark.new.nodes c.in_ok-nodes.nodes.items n)) made
