@@ -49,11 +49,19 @@ is_block_same one two e =
 
 -- ---- order
 
-pub put_in_order : (least low high : ℕ) (block : Block) (blocks : List Block) → InOrder least low high blocks → is_free blocks block ≡ true → least ≤ block.bits → low ≤ block.base → block.base + 2 ^ block.bits ≤ high → InOrder least low high (put_by_base block blocks)
+pub put_in_order : (least low high : ℕ) (block : Block) (blocks : List Block) → InOrder least low high blocks
+    → is_free blocks block ≡ true → least ≤ block.bits → low ≤ block.base → block.base + 2 ^ block.bits ≤ high
+    → InOrder least low high (put_by_base block blocks)
 put_in_order least low high block [] order free big above inside = (above, big, inside)
-put_in_order least low high block (other ∷ others) order free big above inside = by (put_in_order least (other.base + 2 ^ other.bits) high block others order.2 (and_true (are_apart block other) (list_all (are_apart block) others) free).1 big) (nat_le block.base other.base) refl
+put_in_order least low high block (other ∷ others) order free big above inside =
+    by (put_in_order least (other.base + 2 ^ other.bits) high block others order.2
+    (and_true (are_apart block other) (list_all (are_apart block) others) free).1 big)
+    (nat_le block.base other.base) refl
   where
-    by : (other.base + 2 ^ other.bits ≤ block.base → block.base + 2 ^ block.bits ≤ high → InOrder least (other.base + 2 ^ other.bits) high (put_by_base block others)) → (b : Bool) → nat_le block.base other.base ≡ b → InOrder least low high (cond b (block ∷ other ∷ others) (other ∷ put_by_base block others))
+    by : (other.base + 2 ^ other.bits ≤ block.base → block.base + 2 ^ block.bits ≤ high
+        → InOrder least (other.base + 2 ^ other.bits) high (put_by_base block others)) → (b : Bool)
+        → nat_le block.base other.base ≡ b
+        → InOrder least low high (cond b (block ∷ other ∷ others) (other ∷ put_by_base block others))
     by more true e =
         let apart = (and_true (are_apart block other) (list_all (are_apart block) others) free).0 in
         let some = pow_pos other.bits in
@@ -65,15 +73,19 @@ put_in_order least low high block (other ∷ others) order free big above inside
         let next : other.base + 2 ^ other.bits ≤ block.base = grind (arith, nat_tests) in
         (order.0, order.1, more next inside)
 
-lower_in_order : (least low less high : ℕ) (blocks : List Block) → less ≤ low → InOrder least low high blocks → InOrder least less high blocks
+lower_in_order : (least low less high : ℕ) (blocks : List Block) → less ≤ low → InOrder least low high blocks
+    → InOrder least less high blocks
 lower_in_order least low less high [] le order = omega arith
 lower_in_order least low less high (block ∷ blocks) le order = (omega arith, order.1, order.2)
 
-pub without_in_order : (least low high : ℕ) (block : Block) (blocks : List Block) → InOrder least low high blocks → InOrder least low high (without block blocks)
+pub without_in_order : (least low high : ℕ) (block : Block) (blocks : List Block)
+    → InOrder least low high blocks → InOrder least low high (without block blocks)
 without_in_order least low high block [] order = order
-without_in_order least low high block (other ∷ others) order = by (without_in_order least (other.base + 2 ^ other.bits) high block others order.2) (is_block other block)
+without_in_order least low high block (other ∷ others) order =
+    by (without_in_order least (other.base + 2 ^ other.bits) high block others order.2) (is_block other block)
   where
-    by : InOrder least (other.base + 2 ^ other.bits) high (without block others) → (b : Bool) → InOrder least low high (cond b others (other ∷ without block others))
+    by : InOrder least (other.base + 2 ^ other.bits) high (without block others) → (b : Bool)
+        → InOrder least low high (cond b others (other ∷ without block others))
     by rest true = lower_in_order least (other.base + 2 ^ other.bits) low high others (omega arith) order.2
     by rest false = (order.0, order.1, rest)
 
@@ -89,7 +101,8 @@ ends_below least low high (block ∷ blocks) order =
     let from = order.0 in
     omega arith
 
-pub is_inside : (least low high : ℕ) (block : Block) (blocks : List Block) → InOrder least low high blocks → Contains blocks block → IsInside least low high block
+pub is_inside : (least low high : ℕ) (block : Block) (blocks : List Block) → InOrder least low high blocks
+    → Contains blocks block → IsInside least low high block
 is_inside least low high block [] order h = absurd (contains_none block h)
 is_inside least low high block (other ∷ others) order h =
     ⊎_elim
@@ -108,57 +121,76 @@ is_inside least low high block (other ∷ others) order h =
     (contains_cons other block others h)
 
 -- each has at least the least size
-pub few_in_order : (least low high : ℕ) (blocks : List Block) → InOrder least low high blocks → low + length blocks * 2 ^ least ≤ high
+pub few_in_order : (least low high : ℕ) (blocks : List Block) → InOrder least low high blocks
+    → low + length blocks * 2 ^ least ≤ high
 few_in_order least low high [] order = omega arith
 few_in_order least low high (block ∷ blocks) order =
     let rest = few_in_order least (block.base + 2 ^ block.bits) high blocks order.2 in
     let big = pow_mono {i = least} {j = block.bits} order.1 in
     grind arith
 
-pub length-put_by_base : (block : Block) (blocks : List Block) → length (put_by_base block blocks) ≡ suc (length blocks)
+pub length-put_by_base : (block : Block) (blocks : List Block)
+    → length (put_by_base block blocks) ≡ suc (length blocks)
 length-put_by_base block [] = refl
-length-put_by_base block (other ∷ others) = by (length-put_by_base block others) (nat_le block.base other.base)
+length-put_by_base block (other ∷ others) =
+    by (length-put_by_base block others) (nat_le block.base other.base)
   where
     by : length (put_by_base block others) ≡ suc (length others)
-        → (b : Bool) → length (cond b (block ∷ other ∷ others) (other ∷ put_by_base block others)) ≡ suc (suc (length others))
+        → (b : Bool) → length (cond b (block ∷ other ∷ others) (other ∷ put_by_base block others))
+        ≡ suc (suc (length others))
     by rest true = refl
     by rest false = ap suc rest
 
 -- ---- what is free
 
-free_put : (block x : Block) (blocks : List Block) → is_free (put_by_base block blocks) x ≡ (are_apart x block && is_free blocks x)
+free_put : (block x : Block) (blocks : List Block)
+    → is_free (put_by_base block blocks) x ≡ (are_apart x block && is_free blocks x)
 free_put block x [] = refl
 free_put block x (other ∷ others) = by (free_put block x others) (nat_le block.base other.base)
   where
-    by : is_free (put_by_base block others) x ≡ (are_apart x block && is_free others x) → (b : Bool) → is_free (cond b (block ∷ other ∷ others) (other ∷ put_by_base block others)) x ≡ (are_apart x block && (are_apart x other && is_free others x))
+    by : is_free (put_by_base block others) x ≡ (are_apart x block && is_free others x) → (b : Bool)
+        → is_free (cond b (block ∷ other ∷ others) (other ∷ put_by_base block others)) x
+        ≡ (are_apart x block && (are_apart x other && is_free others x))
     by rest true = refl
-    by rest false = ap (λ c. are_apart x other && c) rest ∙ and_swap (are_apart x other) (are_apart x block) (is_free others x)
+    by rest false = ap (λ c. are_apart x other && c) rest
+        ∙ and_swap (are_apart x other) (are_apart x block) (is_free others x)
 
-free_without : (block x : Block) (blocks : List Block) → Contains blocks block → is_free blocks x ≡ (are_apart x block && is_free (without block blocks) x)
+free_without : (block x : Block) (blocks : List Block) → Contains blocks block
+    → is_free blocks x ≡ (are_apart x block && is_free (without block blocks) x)
 free_without block x [] h = absurd (contains_none block h)
 free_without block x (other ∷ others) h = by (λ k. free_without block x others k) (is_block other block) refl
   where
-    by : (Contains others block → is_free others x ≡ (are_apart x block && is_free (without block others) x)) → (b : Bool) → is_block other block ≡ b → (are_apart x other && is_free others x) ≡ (are_apart x block && is_free (cond b others (other ∷ without block others)) x)
+    by : (Contains others block → is_free others x ≡ (are_apart x block && is_free (without block others) x))
+        → (b : Bool) → is_block other block ≡ b
+        → (are_apart x other && is_free others x)
+        ≡ (are_apart x block && is_free (cond b others (other ∷ without block others)) x)
     by rest true e = ap (λ (o : Block). are_apart x o && is_free others x) (is_block_true other block e)
     by rest false e =
         ⊎_elim
         (λ (s : other ≡ block). absurd (false≢true (sym e ∙ is_block_same other block s)))
-        (λ (k : Contains others block). ap (λ c. are_apart x other && c) (rest k) ∙ and_swap (are_apart x other) (are_apart x block) (is_free (without block others) x))
+        (λ (k : Contains others block). ap (λ c. are_apart x other && c) (rest k)
+        ∙ and_swap (are_apart x other) (are_apart x block) (is_free (without block others) x))
         (contains_cons other block others h)
 
-before_all : (least low high : ℕ) (block : Block) (blocks : List Block) → InOrder least low high blocks → block.base + 2 ^ block.bits ≤ low → is_free blocks block ≡ true
+before_all : (least low high : ℕ) (block : Block) (blocks : List Block) → InOrder least low high blocks
+    → block.base + 2 ^ block.bits ≤ low → is_free blocks block ≡ true
 before_all least low high block [] order le = refl
 before_all least low high block (other ∷ others) order le =
     let from = order.0 in
     let some = pow_pos other.bits in
     let apart : are_apart block other ≡ true = grind (arith, nat_tests) in
-    ap₂ (λ (a b : Bool). a && b) apart (before_all least (other.base + 2 ^ other.bits) high block others order.2 (omega arith))
+    ap₂ (λ (a b : Bool). a && b) apart
+    (before_all least (other.base + 2 ^ other.bits) high block others order.2 (omega arith))
 
-free_gone : (least low high : ℕ) (block : Block) (blocks : List Block) → InOrder least low high blocks → Contains blocks block → is_free (without block blocks) block ≡ true
+free_gone : (least low high : ℕ) (block : Block) (blocks : List Block) → InOrder least low high blocks
+    → Contains blocks block → is_free (without block blocks) block ≡ true
 free_gone least low high block [] order h = absurd (contains_none block h)
-free_gone least low high block (other ∷ others) order h = by (λ k. free_gone least (other.base + 2 ^ other.bits) high block others order.2 k) (is_block other block) refl
+free_gone least low high block (other ∷ others) order h =
+    by (λ k. free_gone least (other.base + 2 ^ other.bits) high block others order.2 k)
+    (is_block other block) refl
   where
-    by : (Contains others block → is_free (without block others) block ≡ true) → (b : Bool) → is_block other block ≡ b → is_free (cond b others (other ∷ without block others)) block ≡ true
+    by : (Contains others block → is_free (without block others) block ≡ true) → (b : Bool)
+        → is_block other block ≡ b → is_free (cond b others (other ∷ without block others)) block ≡ true
     by rest true e =
         let same = is_block_true other block e in
         let f : other.base ≡ block.base = ap (λ (b : Block). b.base) same in
@@ -173,10 +205,12 @@ free_gone least low high block (other ∷ others) order h = by (λ k. free_gone 
         ap₂ (λ (a b : Bool). a && b) apart (rest k))
         (contains_cons other block others h)
 
-apart_part : (a m b n x p : ℕ) → b ≤ a → a + m ≤ b + n → (nat_le (b + n) x || nat_le (x + p) b) ≡ true → (nat_le (a + m) x || nat_le (x + p) a) ≡ true
+apart_part : (a m b n x p : ℕ) → b ≤ a → a + m ≤ b + n → (nat_le (b + n) x || nat_le (x + p) b) ≡ true
+    → (nat_le (a + m) x || nat_le (x + p) a) ≡ true
 apart_part a m b n x p f g h = grind (arith, nat_tests)
 
-free_part : (block x : Block) (blocks : List Block) → is_free blocks block ≡ true → block.base ≤ x.base → x.base + 2 ^ x.bits ≤ block.base + 2 ^ block.bits → is_free blocks x ≡ true
+free_part : (block x : Block) (blocks : List Block) → is_free blocks block ≡ true → block.base ≤ x.base
+    → x.base + 2 ^ x.bits ≤ block.base + 2 ^ block.bits → is_free blocks x ≡ true
 free_part block x [] h from to = refl
 free_part block x (other ∷ others) h from to =
     let both = and_true (are_apart block other) (is_free others block) h in
@@ -184,44 +218,56 @@ free_part block x (other ∷ others) h from to =
     (apart_part x.base (2 ^ x.bits) block.base (2 ^ block.bits) other.base (2 ^ other.bits) from to both.0)
     (free_part block x others both.1 from to)
 
-part_meets : (block x : Block) → block.base ≤ x.base → x.base + 2 ^ x.bits ≤ block.base + 2 ^ block.bits → are_apart x block ≡ false
+part_meets : (block x : Block) → block.base ≤ x.base → x.base + 2 ^ x.bits ≤ block.base + 2 ^ block.bits
+    → are_apart x block ≡ false
 part_meets block x from to =
     let some = pow_pos x.bits in
     let more = pow_pos block.bits in
     grind (arith, nat_tests)
 
-pub take_becomes : (block : Block) (blocks : List Block) → Becomes false block blocks (put_by_base block blocks)
+pub take_becomes : (block : Block) (blocks : List Block)
+    → Becomes false block blocks (put_by_base block blocks)
 take_becomes block blocks = record {
   apart = λ x h. free_put block x blocks ∙ ap (λ c. c && is_free blocks x) h;
-  within = λ x from to. free_put block x blocks ∙ ap (λ c. c && is_free blocks x) (part_meets block x from to);
+  within = λ x from to. free_put block x blocks
+      ∙ ap (λ c. c && is_free blocks x) (part_meets block x from to);
 }
 
-pub give_becomes : (least low high : ℕ) (block : Block) (blocks : List Block) → InOrder least low high blocks → Contains blocks block → Becomes true block blocks (without block blocks)
+pub give_becomes : (least low high : ℕ) (block : Block) (blocks : List Block) → InOrder least low high blocks
+    → Contains blocks block → Becomes true block blocks (without block blocks)
 give_becomes least low high block blocks order h = record {
   apart = λ x e. sym (free_without block x blocks h ∙ ap (λ c. c && is_free (without block blocks) x) e);
-  within = λ x from to. free_part block x (without block blocks) (free_gone least low high block blocks order h) from to;
+  within = λ x from to. free_part block x (without block blocks)
+      (free_gone least low high block blocks order h) from to;
 }
 
 -- an aligned block, by its place among those of its size
-pub aligned_is : (block : Block) → IsAligned block.base block.bits → block_at block.bits (block.base / 2 ^ block.bits) ≡ block
+pub aligned_is : (block : Block) → IsAligned block.base block.bits
+    → block_at block.bits (block.base / 2 ^ block.bits) ≡ block
 aligned_is block is =
-    let e : block.base / 2 ^ block.bits * 2 ^ block.bits ≡ block.base = omega (arith, shr_split block.base block.bits, is.multiple) in
+    let e : block.base / 2 ^ block.bits * 2 ^ block.bits ≡ block.base =
+    omega (arith, shr_split block.base block.bits, is.multiple) in
     let made : ℕ → Block = λ m. record { base = m; bits = block.bits } in
     ap made e
 
 -- ---- what holds of each, and what a list has
 
-pub all_put : (P : Block → Type 0) (block : Block) (blocks : List Block) → P block → All P blocks → All P (put_by_base block blocks)
+pub all_put : (P : Block → Type 0) (block : Block) (blocks : List Block) → P block → All P blocks
+    → All P (put_by_base block blocks)
 all_put P block [] p all = All-cons P block [] p all
-all_put P block (other ∷ others) p all = by (all_put P block others p (All-tail P other others all)) (nat_le block.base other.base)
+all_put P block (other ∷ others) p all =
+    by (all_put P block others p (All-tail P other others all)) (nat_le block.base other.base)
   where
-    by : All P (put_by_base block others) → (b : Bool) → All P (cond b (block ∷ other ∷ others) (other ∷ put_by_base block others))
+    by : All P (put_by_base block others) → (b : Bool)
+        → All P (cond b (block ∷ other ∷ others) (other ∷ put_by_base block others))
     by rest true = All-cons P block (other ∷ others) p all
     by rest false = All-cons P other (put_by_base block others) (All-head P other others all) rest
 
-pub all_without : (P : Block → Type 0) (block : Block) (blocks : List Block) → All P blocks → All P (without block blocks)
+pub all_without : (P : Block → Type 0) (block : Block) (blocks : List Block) → All P blocks
+    → All P (without block blocks)
 all_without P block [] all = all
-all_without P block (other ∷ others) all = by (all_without P block others (All-tail P other others all)) (is_block other block)
+all_without P block (other ∷ others) all =
+    by (all_without P block others (All-tail P other others all)) (is_block other block)
   where
     by : All P (without block others) → (b : Bool) → All P (cond b others (other ∷ without block others))
     by rest true = All-tail P other others all
@@ -238,19 +284,25 @@ pub contains_put : (block : Block) (blocks : List Block) → Contains (put_by_ba
 contains_put block [] = contains_first block []
 contains_put block (other ∷ others) = by (contains_put block others) (nat_le block.base other.base)
   where
-    by : Contains (put_by_base block others) block → (b : Bool) → Contains (cond b (block ∷ other ∷ others) (other ∷ put_by_base block others)) block
+    by : Contains (put_by_base block others) block → (b : Bool)
+        → Contains (cond b (block ∷ other ∷ others) (other ∷ put_by_base block others)) block
     by rest true = contains_first block (other ∷ others)
     by rest false = cons_contains other block (put_by_base block others) rest
 
-pub contains_put_other : (block x : Block) (blocks : List Block) → Contains blocks x → Contains (put_by_base block blocks) x
+pub contains_put_other : (block x : Block) (blocks : List Block) → Contains blocks x
+    → Contains (put_by_base block blocks) x
 contains_put_other block x [] h = absurd (contains_none x h)
-contains_put_other block x (other ∷ others) h = by (λ k. contains_put_other block x others k) (nat_le block.base other.base)
+contains_put_other block x (other ∷ others) h =
+    by (λ k. contains_put_other block x others k) (nat_le block.base other.base)
   where
-    by : (Contains others x → Contains (put_by_base block others) x) → (b : Bool) → Contains (cond b (block ∷ other ∷ others) (other ∷ put_by_base block others)) x
+    by : (Contains others x → Contains (put_by_base block others) x) → (b : Bool)
+        → Contains (cond b (block ∷ other ∷ others) (other ∷ put_by_base block others)) x
     by rest true = cons_contains block x (other ∷ others) h
     by rest false =
         ⊎_elim
-        (λ (e : other ≡ x). let P : Block → Type 0 = λ y. Contains (other ∷ put_by_base block others) y in subst P e (contains_first other (put_by_base block others)))
+        (λ (e : other ≡ x). let P : Block
+        → Type 0 = λ y. Contains (other ∷ put_by_base block others) y in
+        subst P e (contains_first other (put_by_base block others)))
         (λ (k : Contains others x). cons_contains other x (put_by_base block others) (rest k))
         (contains_cons other x others h)
 
@@ -259,6 +311,8 @@ pub contains_by_base : (x : Block) (blocks : List Block) → Contains blocks x �
 contains_by_base x [] h = h
 contains_by_base x (other ∷ others) h =
     ⊎_elim
-    (λ (e : other ≡ x). let P : Block → Type 0 = λ y. Contains (put_by_base other (by_base others)) y in subst P e (contains_put other (by_base others)))
+    (λ (e : other ≡ x). let P : Block
+    → Type 0 = λ y. Contains (put_by_base other (by_base others)) y in
+    subst P e (contains_put other (by_base others)))
     (λ (k : Contains others x). contains_put_other other x (by_base others) (contains_by_base x others k))
     (contains_cons other x others h)

@@ -25,15 +25,19 @@ other_block region other apart = by (is_block other region) refl
         absurd (false≢true (grind (arith, nat_tests)))
     by false e = refl
 
-pub without_put : (taken : List Block) (region : Block) → is_free taken region ≡ true → without region (put_by_base region taken) ≡ taken
+pub without_put : (taken : List Block) (region : Block) → is_free taken region ≡ true
+    → without region (put_by_base region taken) ≡ taken
 without_put [] region free = first_gone region []
 without_put (other ∷ others) region free =
-    by (without_put others region (and_true (are_apart region other) (is_free others region) free).1) (nat_le region.base other.base)
+    by (without_put others region (and_true (are_apart region other) (is_free others region) free).1)
+    (nat_le region.base other.base)
   where
     by : without region (put_by_base region others) ≡ others
-        → (b : Bool) → without region (cond b (region ∷ other ∷ others) (other ∷ put_by_base region others)) ≡ other ∷ others
+        → (b : Bool) → without region (cond b (region ∷ other ∷ others) (other ∷ put_by_base region others))
+        ≡ other ∷ others
     by rest true = first_gone region (other ∷ others)
     by rest false =
-        ap (λ (b : Bool). cond b (put_by_base region others) (other ∷ without region (put_by_base region others)))
+        ap (λ (b : Bool). cond b (put_by_base region others)
+        (other ∷ without region (put_by_base region others)))
         (other_block region other (and_true (are_apart region other) (is_free others region) free).0)
         ∙ ap (λ (xs : List Block). other ∷ xs) rest

@@ -25,7 +25,8 @@ half_tree : take 3 (tree_of (at 0 4 ∷ []) 5 0) ≡ 5 ∷ 0 ∷ 5 ∷ []
 unfolding tree_of node has_free
 half_tree = refl
 
--- three of 8 registers are taken, and the second is given back: 16 registers are free, and no 16 of them in one region
+-- three of 8 registers are taken, and the second is given back: 16 registers are free, and no 16 of them in
+-- one region
 abbrev x_y_z : List Block
 x_y_z = by_base (at 16 3 ∷ at 0 3 ∷ at 8 3 ∷ [])
 

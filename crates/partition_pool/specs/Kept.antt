@@ -9,7 +9,8 @@ use Rattle.partition_pool.specs.Nodes.{node}
 abbrev pub blocks_from : ℕ → ℕ → List ℕ → List Block
 blocks_from least k [] = []
 blocks_from least k (zero ∷ rest) = blocks_from least (suc k) rest
-blocks_from least k (suc n ∷ rest) = record { base = k * 2 ^ least; bits = n } ∷ blocks_from least (suc k) rest
+blocks_from least k (suc n ∷ rest) =
+    record { base = k * 2 ^ least; bits = n } ∷ blocks_from least (suc k) rest
 
 -- where the node of the i-th region of 2 ^ bits registers stands
 abbrev pub place : ℕ → ℕ → ℕ → ℕ
@@ -28,7 +29,8 @@ HasLevels array_bits least taken low high nodes =
 -- what is free before and after a region is taken (free is false) or given back
 pub record Becomes (free : Bool) (region : Block) (before after : List Block) : Type 0 where
   pub apart : (x : Block) → are_apart x region ≡ true → is_free after x ≡ is_free before x
-  pub within : (x : Block) → region.base ≤ x.base → x.base + 2 ^ x.bits ≤ region.base + 2 ^ region.bits → is_free after x ≡ free
+  pub within : (x : Block) → region.base ≤ x.base → x.base + 2 ^ x.bits ≤ region.base + 2 ^ region.bits
+      → is_free after x ≡ free
 
 -- all levels: the nodes are those of this taken list
 abbrev pub IsTree : ℕ → ℕ → List Block → List ℕ → Type 0
@@ -37,7 +39,8 @@ IsTree array_bits least taken nodes = HasLevels array_bits least taken least (ar
 -- from the nodes before a region is taken (free is false) or given back to those after it
 abbrev pub Marks : ℕ → ℕ → Block → Bool → List ℕ → List ℕ → Type 0
 Marks array_bits least region free old new =
-    (before after : List Block) → Becomes free region before after → IsTree array_bits least before old → IsTree array_bits least after new
+    (before after : List Block) → Becomes free region before after → IsTree array_bits least before old
+    → IsTree array_bits least after new
 
 -- the same of the levels up to the region's own; those above it are as before
 abbrev pub MarksWithin : ℕ → ℕ → Block → Bool → List ℕ → List ℕ → Type 0
@@ -57,7 +60,6 @@ MarksAbove array_bits least region old new =
 -- the numbers of a pool are in the limits, and starts and nodes are those of one taken list
 pub record IsKept (array_bits least split : ℕ) (starts nodes : List ℕ) : Type 0 where
   pub least_array : 5 ≤ array_bits
-  pub most_array : array_bits ≤ 20
   pub least_split : 5 ≤ split
   pub most_split : split ≤ 10
   pub least_is : least ≡ array_bits - split

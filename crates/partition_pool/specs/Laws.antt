@@ -6,7 +6,8 @@ use Rattle.partition_pool.specs.Nodes.{largest_free}
 
 -- a free region that is taken and given back leaves the list as it was
 abbrev pub GiveRestores : Type 0
-GiveRestores = (taken : List Block) (region : Block) → is_free taken region ≡ true → without region (put_by_base region taken) ≡ taken
+GiveRestores = (taken : List Block) (region : Block) → is_free taken region ≡ true
+    → without region (put_by_base region taken) ≡ taken
 
 -- a partition of a size is found exactly where it is no larger than the largest free one
 abbrev pub FindsUpToLargest : Type 0

@@ -12,7 +12,8 @@ parts n bits i = map (block_at n) (range_with_len (i * 2 ^ (bits - n)) (2 ^ (bit
 unfoldable pub has_free : List Block → ℕ → ℕ → ℕ → Bool
 has_free taken n bits i = list_any (is_free taken) (parts n bits i)
 
--- n + 1 for the greatest n, of the count numbers from least on, for which a part of 2 ^ n registers is free; 0 where there is none
+-- n + 1 for the greatest n, of the count numbers from least on, for which a part of 2 ^ n registers is free;
+-- 0 where there is none
 abbrev pub node_among : List Block → ℕ → ℕ → ℕ → ℕ → ℕ
 node_among taken bits i least zero = 0
 node_among taken bits i least (suc count) =
@@ -22,7 +23,8 @@ node_among taken bits i least (suc count) =
 unfoldable pub node : List Block → ℕ → ℕ → ℕ → ℕ
 node taken least bits i = node_among taken bits i least (suc bits - least)
 
--- all nodes, level by level from the whole array down, the lower half first: the halves of place k are at 2k + 1 and 2k + 2
+-- all nodes, level by level from the whole array down, the lower half first: the halves of place k are at 2k
+-- + 1 and 2k + 2
 unfoldable pub tree_of : List Block → ℕ → ℕ → List ℕ
 tree_of taken array_bits least =
     flat_map (λ depth. map (node taken least (array_bits - depth)) (range_with_len 0 (2 ^ depth)))

@@ -2,7 +2,8 @@
 use Rattle.std.specs.Prelude.{ℕ, ◌-◌, List}
 use Rattle.addr_translate.specs.Blocks.{Block}
 
--- the array of this number has 2 ^ bits registers and at most 2 ^ split partitions; the taken regions stand by base
+-- the array of this number has 2 ^ bits registers and at most 2 ^ split partitions; the taken regions stand
+-- by base
 pub record PoolState : Type 0 where
   pub number : ℕ
   pub bits : ℕ

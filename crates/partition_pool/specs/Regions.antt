@@ -19,11 +19,13 @@ block_at bits i = record { base = i * 2 ^ bits; bits = bits }
 
 -- of the aligned regions of 2 ^ bits registers in an array of 2 ^ array_bits, the free one of the least base
 unfoldable pub free_block : List Block → ℕ → ℕ → Option Block
-free_block taken array_bits bits = find (is_free taken) (map (block_at bits) (range_with_len 0 (2 ^ (array_bits - bits))))
+free_block taken array_bits bits =
+    find (is_free taken) (map (block_at bits) (range_with_len 0 (2 ^ (array_bits - bits))))
 
 -- how many registers of the array stand in no taken region
 abbrev pub free_registers : List Block → ℕ → ℕ
-free_registers taken array_bits = count_by (λ r. is_free taken (block_at 0 r)) (range_with_len 0 (2 ^ array_bits))
+free_registers taken array_bits =
+    count_by (λ r. is_free taken (block_at 0 r)) (range_with_len 0 (2 ^ array_bits))
 
 -- a partition of an array of 2 ^ array_bits registers, whose smallest has 2 ^ least: aligned and in the array
 pub record IsPartition (least array_bits : ℕ) (region : Block) : Type 0 where

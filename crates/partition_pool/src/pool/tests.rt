@@ -6,8 +6,11 @@ use crate::freeze;
 use std::test::Fail;
 
 const EIGHT: Region = Region { base: 0, bits: 3 };
+
 const THIRD_EIGHT: Region = Region { base: 16, bits: 3 };
+
 const LOWER_HALF: Region = Region { base: 0, bits: 4 };
+
 const UPPER_HALF: Region = Region { base: 16, bits: 4 };
 
 // free registers, the largest free partition, places 0 to 2 of the tree, and where 8 and 16

@@ -11,8 +11,10 @@ use Rattle.partition_pool.proofs.pool.Pool.give_back.Goals as goal
 pub index_mut-requires : goal.index_mut-requires
 index_mut-requires c =
     let taken = rw (← c.region.view_is, ← c.self.view_is) at c.requires in
-    let is = is_inside c.self.inside.levels.least 0 (2 ^ c.self.inside.levels.array_bits) (record { base = c.region.inside.base; bits = c.region.inside.bits })
-    (blocks_from c.self.inside.levels.least 0 c.self.inside.starts.items) c.self.invariant.taken.order taken in
+    let is = is_inside c.self.inside.levels.least 0 (2 ^ c.self.inside.levels.array_bits)
+    (record { base = c.region.inside.base; bits = c.region.inside.bits })
+    (blocks_from c.self.inside.levels.least 0 c.self.inside.starts.items) c.self.invariant.taken.order taken
+    in
     let s = spot c.self.inside.levels.array_bits c.self.inside.levels.least
     (record { base = c.region.inside.base; bits = c.region.inside.bits })
     c.region.invariant is.big is.below in
@@ -23,8 +25,10 @@ index_mut-requires c =
 pub mark-requires-clause-least : goal.mark-requires-clause-least
 mark-requires-clause-least c =
     let taken = rw (← c.region.view_is, ← c.self.view_is) at c.requires in
-    let is = is_inside c.self.inside.levels.least 0 (2 ^ c.self.inside.levels.array_bits) (record { base = c.region.inside.base; bits = c.region.inside.bits })
-    (blocks_from c.self.inside.levels.least 0 c.self.inside.starts.items) c.self.invariant.taken.order taken in
+    let is = is_inside c.self.inside.levels.least 0 (2 ^ c.self.inside.levels.array_bits)
+    (record { base = c.region.inside.base; bits = c.region.inside.bits })
+    (blocks_from c.self.inside.levels.least 0 c.self.inside.starts.items) c.self.invariant.taken.order taken
+    in
     let s = spot c.self.inside.levels.array_bits c.self.inside.levels.least
     (record { base = c.region.inside.base; bits = c.region.inside.bits })
     c.region.invariant is.big is.below in
@@ -33,8 +37,10 @@ mark-requires-clause-least c =
 pub mark-requires-clause-most : goal.mark-requires-clause-most
 mark-requires-clause-most c =
     let taken = rw (← c.region.view_is, ← c.self.view_is) at c.requires in
-    let is = is_inside c.self.inside.levels.least 0 (2 ^ c.self.inside.levels.array_bits) (record { base = c.region.inside.base; bits = c.region.inside.bits })
-    (blocks_from c.self.inside.levels.least 0 c.self.inside.starts.items) c.self.invariant.taken.order taken in
+    let is = is_inside c.self.inside.levels.least 0 (2 ^ c.self.inside.levels.array_bits)
+    (record { base = c.region.inside.base; bits = c.region.inside.bits })
+    (blocks_from c.self.inside.levels.least 0 c.self.inside.starts.items) c.self.invariant.taken.order taken
+    in
     let s = spot c.self.inside.levels.array_bits c.self.inside.levels.least
     (record { base = c.region.inside.base; bits = c.region.inside.bits })
     c.region.invariant is.big is.below in
@@ -43,8 +49,10 @@ mark-requires-clause-most c =
 pub mark-requires-clause-inside : goal.mark-requires-clause-inside
 mark-requires-clause-inside c =
     let taken = rw (← c.region.view_is, ← c.self.view_is) at c.requires in
-    let is = is_inside c.self.inside.levels.least 0 (2 ^ c.self.inside.levels.array_bits) (record { base = c.region.inside.base; bits = c.region.inside.bits })
-    (blocks_from c.self.inside.levels.least 0 c.self.inside.starts.items) c.self.invariant.taken.order taken in
+    let is = is_inside c.self.inside.levels.least 0 (2 ^ c.self.inside.levels.array_bits)
+    (record { base = c.region.inside.base; bits = c.region.inside.bits })
+    (blocks_from c.self.inside.levels.least 0 c.self.inside.starts.items) c.self.invariant.taken.order taken
+    in
     let s = spot c.self.inside.levels.array_bits c.self.inside.levels.least
     (record { base = c.region.inside.base; bits = c.region.inside.bits })
     c.region.invariant is.big is.below in
@@ -53,16 +61,22 @@ mark-requires-clause-inside c =
 pub invariant_of-self : goal.invariant_of-self
 invariant_of-self c =
     let taken = rw (← c.region.view_is, ← c.self.view_is) at c.requires in
-    let is = is_inside c.self.inside.levels.least 0 (2 ^ c.self.inside.levels.array_bits) (record { base = c.region.inside.base; bits = c.region.inside.bits })
-    (blocks_from c.self.inside.levels.least 0 c.self.inside.starts.items) c.self.invariant.taken.order taken in
+    let is = is_inside c.self.inside.levels.least 0 (2 ^ c.self.inside.levels.array_bits)
+    (record { base = c.region.inside.base; bits = c.region.inside.bits })
+    (blocks_from c.self.inside.levels.least 0 c.self.inside.starts.items) c.self.invariant.taken.order taken
+    in
     let s = spot c.self.inside.levels.array_bits c.self.inside.levels.least
     (record { base = c.region.inside.base; bits = c.region.inside.bits })
     c.region.invariant is.big is.below in
     let M : List ℕ → Type 0 = λ xs.
-    Marks c.self.inside.levels.array_bits c.self.inside.levels.least (block_at c.region.inside.bits (c.region.inside.base / 2 ^ c.region.inside.bits)) true xs c.mark.new.nodes in
+    Marks c.self.inside.levels.array_bits c.self.inside.levels.least
+    (block_at c.region.inside.bits (c.region.inside.base / 2 ^ c.region.inside.bits)) true xs c.mark.new.nodes
+    in
     let marks = subst M c.as_mut_slice.ensures.value c.mark.ensures in
-    let same : length c.mark.new.nodes ≡ length c.self.inside.nodes.items = c.mark.auto.nodes ∙ ap length c.as_mut_slice.ensures.value in
-    let made = drop_pool c.self.inside.levels.array_bits c.self.inside.levels.least c.self.inside.split c.self.inside.starts.items c.self.inside.nodes.items c.mark.new.nodes
+    let same : length c.mark.new.nodes ≡ length c.self.inside.nodes.items = c.mark.auto.nodes
+    ∙ ap length c.as_mut_slice.ensures.value in
+    let made = drop_pool c.self.inside.levels.array_bits c.self.inside.levels.least c.self.inside.split
+    c.self.inside.starts.items c.self.inside.nodes.items c.mark.new.nodes
     (record { base = c.region.inside.base; bits = c.region.inside.bits })
     c.self.invariant s taken same marks in
     let X : List ℕ → Type 0 = λ xs.
@@ -74,14 +88,21 @@ invariant_of-self c =
 pub returns : goal.returns
 returns c =
     let taken = rw (← c.region.view_is, ← c.self.view_is) at c.requires in
-    let is = is_inside c.self.inside.levels.least 0 (2 ^ c.self.inside.levels.array_bits) (record { base = c.region.inside.base; bits = c.region.inside.bits })
-    (blocks_from c.self.inside.levels.least 0 c.self.inside.starts.items) c.self.invariant.taken.order taken in
+    let is = is_inside c.self.inside.levels.least 0 (2 ^ c.self.inside.levels.array_bits)
+    (record { base = c.region.inside.base; bits = c.region.inside.bits })
+    (blocks_from c.self.inside.levels.least 0 c.self.inside.starts.items) c.self.invariant.taken.order taken
+    in
     let s = spot c.self.inside.levels.array_bits c.self.inside.levels.least
     (record { base = c.region.inside.base; bits = c.region.inside.bits })
     c.region.invariant is.big is.below in
     let made : List Block → PoolState =
-    λ bs. record { number = c.self.inside.number; bits = c.self.inside.levels.array_bits; split = c.self.inside.split; taken = bs } in
+    λ bs. record {
+      number = c.self.inside.number;
+      bits = c.self.inside.levels.array_bits;
+      split = c.self.inside.split;
+      taken = bs;
+    } in
     rw (← c.self.view_is, ← c.region.view_is)
-    (ap made (drop_blocks c.self.inside.levels.array_bits c.self.inside.levels.least c.self.inside.starts.items
+    (ap made (drop_blocks c.self.inside.levels.array_bits c.self.inside.levels.least
+    c.self.inside.starts.items
     (record { base = c.region.inside.base; bits = c.region.inside.bits }) s c.self.invariant.places taken))
-

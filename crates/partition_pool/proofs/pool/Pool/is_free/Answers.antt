@@ -34,7 +34,8 @@ returns c =
     (record { base = c.region.inside.base; bits = c.region.inside.bits })
     c.region.invariant (omega arith) inside in
     let taken : List Block = blocks_from c.self.inside.levels.least 0 c.self.inside.starts.items in
-    let N : List ℕ → Type 0 = λ xs. IsTree c.self.inside.levels.array_bits c.self.inside.levels.least taken xs in
+    let N : List ℕ → Type 0 =
+    λ xs. IsTree c.self.inside.levels.array_bits c.self.inside.levels.least taken xs in
     rw (← c.self.view_is, ← c.region.view_is)
     (c.is_whole.ensures taken (subst N (sym c.as_slice.ensures.value) c.self.invariant.levels)
     ∙ ap (is_free taken) s.is_at)

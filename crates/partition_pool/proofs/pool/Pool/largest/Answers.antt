@@ -8,7 +8,9 @@ use Rattle.partition_pool.proofs.pool.Pool.largest.Goals as goal
 pub size_told-requires : goal.size_told-requires
 size_told-requires c =
     let taken : List Block = blocks_from c.self.inside.levels.least 0 c.self.inside.starts.items in
-    let N : List ℕ → Type 0 = λ xs. IsTree c.self.inside.levels.array_bits c.self.inside.levels.least taken xs in
+    let N : List ℕ → Type 0 =
+    λ xs. IsTree c.self.inside.levels.array_bits c.self.inside.levels.least taken xs in
     let e = c.root.ensures taken (subst N (sym c.as_slice.ensures.value) c.self.invariant.levels) in
-    let f = node_le taken c.self.inside.levels.least c.self.inside.levels.array_bits 0 (omega (arith, c.self.invariant.least_is)) in
-    omega (arith, e, f, c.self.invariant.most_array)
+    let f = node_le taken c.self.inside.levels.least c.self.inside.levels.array_bits 0
+    (omega (arith, c.self.invariant.least_is)) in
+    omega (arith, e, f, c.self.inside.levels.small)

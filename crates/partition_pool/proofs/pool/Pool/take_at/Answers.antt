@@ -49,20 +49,27 @@ invariant_of-self c =
     c.region.invariant (omega arith) inside in
     let free = rw (← c.region.view_is, ← c.self.view_is) at c.requires.free in
     let M : List ℕ → Type 0 = λ xs.
-    Marks c.self.inside.levels.array_bits c.self.inside.levels.least (block_at c.region.inside.bits (c.region.inside.base / 2 ^ c.region.inside.bits)) false xs c.mark.new.nodes in
+    Marks c.self.inside.levels.array_bits c.self.inside.levels.least
+    (block_at c.region.inside.bits (c.region.inside.base / 2 ^ c.region.inside.bits)) false xs
+    c.mark.new.nodes in
     let marks = subst M c.as_mut_slice.ensures.value c.mark.ensures in
-    let same : length c.mark.new.nodes ≡ length c.self.inside.nodes.items = c.mark.auto.nodes ∙ ap length c.as_mut_slice.ensures.value in
-    let made = put_pool c.self.inside.levels.array_bits c.self.inside.levels.least c.self.inside.split c.self.inside.starts.items c.self.inside.nodes.items c.mark.new.nodes
+    let same : length c.mark.new.nodes ≡ length c.self.inside.nodes.items = c.mark.auto.nodes
+    ∙ ap length c.as_mut_slice.ensures.value in
+    let made = put_pool c.self.inside.levels.array_bits c.self.inside.levels.least c.self.inside.split
+    c.self.inside.starts.items c.self.inside.nodes.items c.mark.new.nodes
     (record { base = c.region.inside.base; bits = c.region.inside.bits })
     c.self.invariant s c.region.invariant inside free same marks in
     let V : ℕ → Type 0 = λ v.
     IsKept c.self.inside.levels.array_bits c.self.inside.levels.least c.self.inside.split
-    (slice_set c.self.inside.starts.items (c.region.inside.base / 2 ^ c.self.inside.levels.least) v) c.mark.new.nodes in
+    (slice_set c.self.inside.starts.items (c.region.inside.base / 2 ^ c.self.inside.levels.least) v)
+    c.mark.new.nodes in
     let X : List ℕ → Type 0 = λ xs.
     IsKept c.self.inside.levels.array_bits c.self.inside.levels.least c.self.inside.split
-    (slice_set c.self.inside.starts.items (c.region.inside.base / 2 ^ c.self.inside.levels.least) (c.region.inside.bits + 1)) xs in
+    (slice_set c.self.inside.starts.items (c.region.inside.base / 2 ^ c.self.inside.levels.least)
+    (c.region.inside.bits + 1)) xs in
     let count : length c.mark.new.nodes ≡ c.self.inside.nodes.len = search rules in
-    subst X (sym (whole_again c.self.inside.nodes.len c.mark.new.nodes c.self.inside.nodes.items count)) (subst V (sym (add-one c.region.inside.bits)) made)
+    subst X (sym (whole_again c.self.inside.nodes.len c.mark.new.nodes c.self.inside.nodes.items count))
+    (subst V (sym (add-one c.region.inside.bits)) made)
 
 pub returns-clause-taken : goal.returns-clause-taken
 returns-clause-taken c =
@@ -74,9 +81,16 @@ returns-clause-taken c =
     c.region.invariant (omega arith) inside in
     let free = rw (← c.region.view_is, ← c.self.view_is) at c.requires.free in
     let made : List Block → PoolState =
-    λ bs. record { number = c.self.inside.number; bits = c.self.inside.levels.array_bits; split = c.self.inside.split; taken = bs } in
+    λ bs. record {
+      number = c.self.inside.number;
+      bits = c.self.inside.levels.array_bits;
+      split = c.self.inside.split;
+      taken = bs;
+    } in
     rw (← c.self.view_is, ← c.region.view_is)
-    (ap made (ap (λ v. blocks_from c.self.inside.levels.least 0 (slice_set c.self.inside.starts.items (c.region.inside.base / 2 ^ c.self.inside.levels.least) v)) (add-one c.region.inside.bits)
+    (ap made (ap (λ v. blocks_from c.self.inside.levels.least 0
+    (slice_set c.self.inside.starts.items (c.region.inside.base / 2 ^ c.self.inside.levels.least) v))
+    (add-one c.region.inside.bits)
     ∙ put_blocks c.self.inside.levels.array_bits c.self.inside.levels.least c.self.inside.starts.items
     (record { base = c.region.inside.base; bits = c.region.inside.bits }) s c.self.invariant.places free))
 
@@ -90,5 +104,6 @@ returns-clause-few c =
     c.region.invariant (omega arith) inside in
     let free = rw (← c.region.view_is, ← c.self.view_is) at c.requires.free in
     rw (← c.self.view_is)
-    (room_for_one c.self.inside.levels.array_bits c.self.inside.levels.least c.self.inside.split c.self.inside.starts.items c.self.inside.nodes.items
+    (room_for_one c.self.inside.levels.array_bits c.self.inside.levels.least c.self.inside.split
+    c.self.inside.starts.items c.self.inside.nodes.items
     (record { base = c.region.inside.base; bits = c.region.inside.bits }) c.self.invariant s inside free)

@@ -15,11 +15,15 @@ pub returns-clause-nodes : goal.returns-clause-nodes
 returns-clause-nodes c =
     rw (← c.self.view_is)
     (c.as_slice.ensures.value
-    ∙ tree_is c.self.inside.levels.array_bits c.self.inside.levels.least (blocks_from c.self.inside.levels.least 0 c.self.inside.starts.items) c.self.inside.nodes.items c.self.invariant.levels
+    ∙ tree_is c.self.inside.levels.array_bits c.self.inside.levels.least
+    (blocks_from c.self.inside.levels.least 0 c.self.inside.starts.items) c.self.inside.nodes.items
+    c.self.invariant.levels
     (omega (arith, c.self.invariant.least_is)) c.self.invariant.room
-    ∙ ap (tree_of (blocks_from c.self.inside.levels.least 0 c.self.inside.starts.items) c.self.inside.levels.array_bits) c.self.invariant.least_is)
+    ∙ ap (tree_of (blocks_from c.self.inside.levels.least 0 c.self.inside.starts.items)
+    c.self.inside.levels.array_bits) c.self.invariant.least_is)
 
 pub returns-clause-partitions : goal.returns-clause-partitions
 returns-clause-partitions c =
-    let P : ℕ → Type 0 = λ least. ArePartitions least c.self.inside.levels.array_bits (blocks_from c.self.inside.levels.least 0 c.self.inside.starts.items) in
+    let P : ℕ → Type 0 = λ least. ArePartitions least c.self.inside.levels.array_bits
+    (blocks_from c.self.inside.levels.least 0 c.self.inside.starts.items) in
     rw (← c.self.view_is) (subst P c.self.invariant.least_is c.self.invariant.taken)

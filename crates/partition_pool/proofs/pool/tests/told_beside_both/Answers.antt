@@ -10,7 +10,7 @@ pub give-requires-clause-taken : goal.give-requires-clause-taken
 give-requires-clause-taken c =
     let region = ap (λ (h : Holding). h.region) c.take_at-lease.ensures.lease in
     let taken : c.told_beside-told.new.pool.taken ≡ put_by_base c.args.one c.args.pool.now.taken =
-    ap (λ (p : PoolState). p.taken) ( c.told_beside-told.ensures ∙ c.take_at-lease.ensures.taken) in
+    ap (λ (p : PoolState). p.taken) (c.told_beside-told.ensures ∙ c.take_at-lease.ensures.taken) in
     let P : List Block → Type 0 = λ xs. Contains xs c.args.one in
     let Q : Block → Type 0 = λ b. Contains c.told_beside-told.new.pool.taken b in
     subst Q (sym region) (subst P (sym taken) (contains_put c.args.one c.args.pool.now.taken))
