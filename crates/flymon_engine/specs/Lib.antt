@@ -11,4 +11,3 @@ pub mod Script
 pub mod Views
 pub mod Steps
 pub mod Words
-pub mod Gathering

@@ -11,7 +11,7 @@ ghost use Rattle.flymon_engine.specs.Views.{passage_view};
 
 use crate::stop::Stop;
 use capture_read::{Capture, CaptureFault};
-use fm_io::{Files, ReadFail};
+use fm_io::Files;
 use pkt_headers::{Packet, packet_of};
 use std::alloc::Global;
 

@@ -8,7 +8,7 @@ use Rattle.std.proofs.lemmas.Grind.{common_steps}
 use Rattle.std.proofs.lemmas.List.{get_or-set_same, get_or-set_other, get_or_past}
 use Rattle.std.proofs.lemmas.List.Sums.{fails_before_first}
 use Rattle.std.proofs.lemmas.Slice.Eq.{bytes_eq-Decides}
-use Rattle.key_mask.specs.Keys.{no_lengths}
+use Rattle.key_mask.specs.Masks.{no_lengths}
 use Rattle.group_keys.specs.Units.{UsedUnit, IsUsed, DifferInMask, AreSound, unit_at, has_mask, served, freed, served_at, freed_at}
 
 -- ---- masks that differ

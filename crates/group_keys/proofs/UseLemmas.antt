@@ -6,7 +6,7 @@ use Rattle.std.proofs.lemmas.Bool.{cases_lt, eq-eqb, ne_eqb}
 use Rattle.std.proofs.lemmas.List.{get_or-set_same, get_or-set_other, get_or_past, length-set}
 use Rattle.std.proofs.lemmas.List.Elements.{All-nil, All-cons, All-head, All-tail}
 use Rattle.std.proofs.lemmas.List.Quantifiers.{position-Some}
-use Rattle.key_mask.specs.Keys.{no_lengths}
+use Rattle.key_mask.specs.Masks.{no_lengths}
 use Rattle.group_keys.specs.declared.uses.KeyUse.{KeyUse}
 use Rattle.group_keys.specs.declared.uses.KeyUse.TheVariants.{Single, Pair}
 use Rattle.group_keys.specs.Units.{UsedUnit, AreSound, HasRoom, unit_at, is_free, has_mask, uses_of, times_in, AreUnits, AreInUse, xor_to, pair_for, keys_for, served, served_at, served_units}

@@ -4,8 +4,7 @@ use Rattle.std.specs.List.{All, AllPairs, count_by, find, range_with_len, slice_
 use Rattle.std.specs.Option.{option_or}
 use Rattle.std.specs.Str.{bytes_eq}
 use Rattle.key_mask.specs.Bytes.{xor_bytes}
-use Rattle.key_mask.specs.Keys.{no_lengths}
-use Rattle.key_mask.specs.Masks.{mask_bytes_of}
+use Rattle.key_mask.specs.Masks.{no_lengths, mask_bytes_of}
 use Rattle.group_keys.specs.declared.uses.KeyUse.{KeyUse}
 use Rattle.group_keys.specs.declared.uses.KeyUse.TheVariants.{Single, Pair}
 

@@ -1,7 +1,7 @@
 //! The units of one group, by their numbers.
 ghost use Rattle.std.specs.Prelude.{◌≡◌, ◌≢◌, ◌↔◌, ◌<◌, ◌≤◌, IfSome, IsTrue, MatchOption, None, Some, replicate, length};
 ghost use Rattle.std.specs.List.{All};
-ghost use Rattle.key_mask.specs.Keys.{no_lengths};
+ghost use Rattle.key_mask.specs.Masks.{no_lengths};
 ghost use Rattle.group_keys.specs.Units.{unit_at, AreSound, HasRoom, mask_of, keys_for, served_at, served_units, freed_at, freed_units, AreUnits, AreInUse};
 
 use crate::finds::keys_among;

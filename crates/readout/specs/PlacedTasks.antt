@@ -6,7 +6,7 @@ use Rattle.addr_translate.specs.Blocks.{Block}
 use Rattle.addr_translate.specs.Geometry.{Geometry, array_count, bits_of}
 use Rattle.group_keys.specs.declared.uses.KeyUse.TheVariants.{Single}
 use Rattle.key_mask.specs.declared.fields.TheConstants.{KEY_BYTES}
-use Rattle.key_mask.specs.Keys.{no_lengths}
+use Rattle.key_mask.specs.Masks.{no_lengths}
 use Rattle.pkt_headers.specs.declared.packets.Attr.TheVariants as attrs
 use Rattle.reg_file.specs.Registers.{Contents, Dims}
 use Rattle.sketch_defs.specs.declared.kinds.Kind.TheVariants.{Cms, Hll}

@@ -1,9 +1,9 @@
 -- What a task that has no fault keeps, and that this is all.
-use Rattle.std.proofs.Common.{◌≡◌, ◌≢◌, ℕ, ◌≤◌, Bool, true, false, not, nat_le, if◌then◌else◌, IsTrue, Option, None, Some, refl, arith}
+use Rattle.std.proofs.Common.{◌≡◌, ◌≢◌, ◌↔◌, List, ℕ, ◌≤◌, Bool, true, false, not, nat_le, if◌then◌else◌, IsTrue, Option, None, Some, refl, arith}
 use Rattle.std.specs.Str.{bytes_eq}
 use Rattle.std.proofs.lemmas.Bool.Decides.{nat_tests, not_from_Decides}
 use Rattle.std.proofs.lemmas.Slice.Eq.{bytes_eq-Decides}
-use Rattle.key_mask.specs.Keys.{no_lengths}
+use Rattle.key_mask.specs.Masks.{no_lengths}
 use Rattle.sketch_defs.specs.declared.kinds.Kind.{Kind}
 use Rattle.sketch_defs.specs.declared.kinds.Kind.TheVariants.{Cms, SumaxSum, SumaxMax, Bloom, Mrac, Hll, FlagOr, FlagAnd}
 use Rattle.sketch_defs.specs.declared.tasks.TaskFault.{TaskFault}
@@ -76,4 +76,19 @@ no_fault sketch rows stands attr =
     rw (rows, some, attr) refl where
       by : (b : Bool) → bytes_eq sketch.key no_lengths ≡ b → b ≡ false
       by true e = absurd (stands ((bytes_eq-Decides sketch.key no_lengths).0 e))
+      by false e = refl
+
+never : IsTrue false → ⊥
+never e = cc
+
+-- the test of a mask is that of the key
+pub key_tested : (key : List ℕ) (test : Bool) → IsTrue test ↔ (key ≡ no_lengths) → is_no_key key ≡ test
+unfolding is_no_key
+key_tested key true exact = rw (exact.0 refl) (by (bytes_eq no_lengths no_lengths) refl) where
+      by : (b : Bool) → bytes_eq no_lengths no_lengths ≡ b → b ≡ true
+      by true e = refl
+      by false e = absurd (not_from_Decides (bytes_eq no_lengths no_lengths) (bytes_eq-Decides no_lengths no_lengths) e refl)
+key_tested key false exact = by (bytes_eq key no_lengths) refl where
+      by : (b : Bool) → bytes_eq key no_lengths ≡ b → b ≡ false
+      by true e = absurd (never (exact.1 ((bytes_eq-Decides key no_lengths).0 e)))
       by false e = refl

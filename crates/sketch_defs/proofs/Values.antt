@@ -3,8 +3,7 @@ use Rattle.std.proofs.Common.{◌≡◌, ℕ, ◌*◌, ◌^◌, List, [], ◌∷
 use Rattle.std.specs.Int.Count.{count_leading_zeros}
 use Rattle.std.specs.Prelude.{◌++◌, replicate, codes}
 use Rattle.key_mask.specs.declared.fields.Field.TheVariants.{SrcIp}
-use Rattle.key_mask.specs.Keys.{no_lengths}
-use Rattle.key_mask.specs.Masks.{mask_bytes_of, lengths_of}
+use Rattle.key_mask.specs.Masks.{no_lengths, mask_bytes_of, lengths_of}
 use Rattle.pkt_headers.specs.declared.packets.Packet.{Packet}
 use Rattle.pkt_headers.specs.declared.packets.Attr.{Attr}
 use Rattle.pkt_headers.specs.declared.packets.Attr.TheVariants.{Packets, Bytes, Flags, Flow}

@@ -1,7 +1,7 @@
 -- Tasks, and which of them there are.
 use Rattle.std.specs.Prelude.{ℕ, ◌&&◌, Bool, true, false, not, nat_le, if◌then◌else◌, List, Option, None, Some}
 use Rattle.std.specs.Str.{bytes_eq}
-use Rattle.key_mask.specs.Keys.{no_lengths}
+use Rattle.key_mask.specs.Masks.{no_lengths}
 use Rattle.pkt_headers.specs.declared.packets.Attr.{Attr}
 use Rattle.pkt_headers.specs.declared.packets.Attr.TheVariants.{Packets, Bytes, Ttl, Flags, Flow}
 use Rattle.task_filters.specs.Filters.{Pattern}

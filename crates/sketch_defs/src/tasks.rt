@@ -1,11 +1,11 @@
 //! Tasks, each with what its kind allows.
 ghost use Rattle.std.specs.Prelude.{◌≡◌, ◌≢◌, ◌≤◌, IsTrue, MatchResult, Some, None};
-ghost use Rattle.key_mask.specs.Keys.{no_lengths};
-ghost use Rattle.sketch_defs.specs.Tasks.{Sketch, first_fault, is_no_key, allows_rows, allows};
+ghost use Rattle.key_mask.specs.Masks.{no_lengths};
+ghost use Rattle.sketch_defs.specs.Tasks.{Sketch, first_fault, allows_rows, allows};
 
 use crate::kinds::Kind;
 use crate::names::Name;
-use key_mask::{FIELD_COUNT, Mask, mask_lengths};
+use key_mask::Mask;
 use pkt_headers::Attr;
 use std::marker::Model;
 use task_filters::Filter;
@@ -65,7 +65,7 @@ impl Task {
         if !kind.allows_rows(rows) {
             return Err(TaskFault::Rows);
         }
-        if is_empty(&key) {
+        if key.is_empty() {
             return Err(TaskFault::EmptyKey);
         }
         if !kind.allows(attr) {
@@ -134,20 +134,12 @@ impl Task {
     }
 }
 
-/// Whether no field stands in the mask.
-#[tactic(auto, unfolding(crate::specs::Tasks::is_no_key))]
-fn is_empty(key: &Mask) -> bool
-    ensures { result ≡ is_no_key key.now }
-{
-    mask_lengths(key) == [0; FIELD_COUNT]
-}
-
 #[cfg(test)]
 mod tests {
     use super::{Task, TaskFault};
     use crate::kinds::Kind;
     use crate::names::Name;
-    use key_mask::{FIELD_COUNT, mask_with, parse_key};
+    use key_mask::{Mask, parse_key};
     use pkt_headers::Attr;
     use std::test::Fail;
     use task_filters::Filter;
@@ -190,7 +182,7 @@ mod tests {
             assert_eq!(rt; task.err(), fault);
         }
         // the key is judged before the attribute
-        let no_key = mask_with(&[0; FIELD_COUNT]);
+        let no_key = Mask::empty();
         let task = Task::new(name, Kind::Cms, 1, no_key, Attr::Flow, filter, 32);
         assert_eq!(rt; task.err(), Some(TaskFault::EmptyKey));
         Ok(())

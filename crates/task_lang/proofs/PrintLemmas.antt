@@ -15,7 +15,8 @@ use Rattle.key_mask.specs.declared.keys.FieldFault.{FieldFault}
 use Rattle.key_mask.specs.declared.fields.Field.{Field}
 use Rattle.key_mask.specs.declared.fields.Field.TheVariants.{SrcIp, DstIp, SrcPort, DstPort, Proto, Tos, EtherType}
 use Rattle.key_mask.specs.Fields.{fields, field_number, is_address, name_of}
-use Rattle.key_mask.specs.Keys.{field_named, item_text, item_texts, key_text, no_lengths, prefix_text}
+use Rattle.key_mask.specs.Keys.{field_named, item_text, item_texts, key_text, prefix_text}
+use Rattle.key_mask.specs.Masks.{no_lengths}
 use Rattle.key_mask.proofs.PrintLemmas.{each_below}
 use Rattle.pkt_headers.specs.declared.packets.Attr.{Attr}
 use Rattle.pkt_headers.specs.declared.packets.Attr.TheVariants as attrs

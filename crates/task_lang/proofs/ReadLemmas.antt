@@ -4,7 +4,8 @@ use Rattle.std.proofs.lemmas.Bool.{false_from_ne_true}
 use Rattle.std.proofs.lemmas.Slice.Eq.{bytes_eq-Decides}
 use Rattle.texts.specs.Cuts.{front, back, parts, parts_behind}
 use Rattle.texts.proofs.CutLemmas.{parts_first}
-use Rattle.key_mask.specs.Keys.{◌>>=◌, no_lengths}
+use Rattle.key_mask.specs.Keys.{◌>>=◌}
+use Rattle.key_mask.specs.Masks.{no_lengths}
 use Rattle.sketch_defs.specs.declared.tasks.TaskFault.{TaskFault}
 use Rattle.sketch_defs.specs.Tasks.{Sketch, allows, allows_rows, first_fault, is_no_key}
 use Rattle.task_lang.specs.declared.commands.Command.{Command}

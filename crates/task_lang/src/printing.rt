@@ -1,7 +1,8 @@
 //! Commands as they are printed: one canonical line for each.
 ghost use Rattle.std.specs.Prelude.{◌≡◌, ◌≢◌, ◌+◌, ◌≤◌, ◌<◌, ◌^◌, ◌∷◌, [], ◌++◌, IsTrue, None, Ok, codes, length};
 ghost use Rattle.std.specs.Fmt.{decimal};
-ghost use Rattle.key_mask.specs.Keys.{key_text, no_lengths};
+ghost use Rattle.key_mask.specs.Keys.{key_text};
+ghost use Rattle.key_mask.specs.Masks.{no_lengths};
 ghost use Rattle.task_filters.specs.Filters.{IsVector};
 ghost use Rattle.task_filters.specs.Printing.{filter_text};
 ghost use Rattle.sketch_defs.specs.declared.names.TheConstants.{NAME_BYTES};

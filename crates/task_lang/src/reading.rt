@@ -1,6 +1,6 @@
 //! The command of a line.
 ghost use Rattle.std.specs.Prelude.{◌≡◌, ◌≢◌, IsTrue};
-ghost use Rattle.key_mask.specs.Keys.{no_lengths};
+ghost use Rattle.key_mask.specs.Masks.{no_lengths};
 ghost use Rattle.sketch_defs.specs.Tasks.{allows, allows_rows};
 ghost use Rattle.texts.specs.Words.{words};
 ghost use Rattle.task_lang.specs.Reading.{ReadsName};

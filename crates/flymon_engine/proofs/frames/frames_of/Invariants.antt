@@ -6,7 +6,6 @@ use Rattle.flymon_engine.specs.Frames.{BytesStay}
 use Rattle.flymon_engine.proofs.FrameLemmas.{SoFar}
 use Rattle.flymon_engine.proofs.frames.frames_of.Given as goal
 
--- these packets came so far, no call failed, and the capture stands behind them
 abbrev pub invariant-records : goal.invariant-records
 invariant-records g l = let f = g.F.Files in let here : Slot = slot_at (f.slots l.files) 2 in record {
   later : f.faults l.fn.files ≤ f.faults l.files;
