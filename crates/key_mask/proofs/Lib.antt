@@ -9,6 +9,7 @@ pub mod KeyLemmas
 pub mod MaskLemmas
 pub mod NumberLemmas
 pub mod OrderLemmas
+pub mod PartKeyLemmas
 pub mod PartLemmas
 pub mod PrefixLemmas
 pub mod PrintLemmas

@@ -20,7 +20,7 @@ use Rattle.key_mask.specs.Ipv6Grammar.{AreGroups, IsFull, IsShort}
 use Rattle.key_mask.specs.Numbers.{◌>>=◌, address_in, has_hex_form, hex_digit_in, hex_in, is_dot, number_in}
 use Rattle.key_mask.specs.Spellings.{address_text, has_no_leading_zero, hex_text, is_canonical_group, is_canonical_value, is_lower_case, value_in, value_text}
 use Rattle.key_mask.proofs.Ipv6AgainLemmas.{AreSmall, count_back, group_all, small_back, texts_are}
-use Rattle.key_mask.proofs.Ipv6GrammarLemmas.{full_parts, no_double, no_others_are_read, parts_of_join, pieces, some_bind}
+use Rattle.key_mask.proofs.Ipv6GrammarLemmas.{full_parts, no_double, no_others_are_addresses, parts_of_join, pieces, some_bind}
 use Rattle.key_mask.proofs.NumberLemmas.{decimal_lead, decimal_pass, digit_is, digit_pass, digits_pass, each_below, number_read, number_text}
 use Rattle.key_mask.proofs.ValueLemmas.{PassesAll, value_pass}
 use Rattle.key_mask.proofs.VectorLemmas.{AreBytes, bytes_back}
@@ -264,8 +264,8 @@ digit_small c d h =
       | true ↦ λ t e. let same : digit_value c ≡ d = cc e in let low : digit_value c < 16 = below_from (digit_value c) t in omega (arith, same, low)
       | false ↦ λ t e. absurd (let wrong : ⊥ = cc in wrong)
     ] refl h where
-  below_from : (n : ℕ) → nat_lt n 16 ≡ true → n < 16
-  below_from n t = grind (arith, nat_tests, t)
+      below_from : (n : ℕ) → nat_lt n 16 ≡ true → n < 16
+      below_from n t = grind (arith, nat_tests, t)
 
 hex_small : (text : List ℕ) (n : ℕ) → hex_in text ≡ Some n → n < 65536
 hex_small text n h =
@@ -344,9 +344,9 @@ group_cases text g h =
     let two : nat_lt 4 (length text) ≡ false = sides.1 in
     (grind (arith, nat_tests, one), grind (arith, nat_tests, two), rw e at h))
     (cases_Bool (length text == 0 || nat_lt 4 (length text))) where
-  or_parts : (a b : Bool) → (a || b) ≡ false → (a ≡ false) × (b ≡ false)
-  or_parts true b e = absurd (false≢true (sym e))
-  or_parts false b e = (refl, e)
+      or_parts : (a b : Bool) → (a || b) ≡ false → (a ≡ false) × (b ≡ false)
+      or_parts true b e = absurd (false≢true (sym e))
+      or_parts false b e = (refl, e)
 
 group_digits : (text : List ℕ) (g : ℕ) → length text ≤ 4 → hex_after 0 text ≡ Some g → 0 < length text
     → has_no_leading_zero text ≡ true → is_lower_case text ≡ true → text ≡ group_text g
@@ -473,9 +473,9 @@ ipv6_is text n h canonical =
     let small = groups_small (parts 58 text) is.groups read.0 in
     let same : groups_before 8 n [] ≡ is.groups = ap (λ m. groups_before 8 m []) (sym is.value) ∙ groups_back is.groups small read.1 in
     sym (join_with_byte-slice_split 58 text) ∙ ap (join_with_byte 58) (groups_are (parts 58 text) is.groups read.0 both.0 ∙ ap (map group_text) (sym same)) where
-  no_place : (o : Option ℕ) → is_none o ≡ true → (gs : List ℕ) → eight_groups_at text o ≡ Some gs → full_in text ≡ Some gs
-  no_place None e gs h = h
-  no_place (Some at) e gs h = absurd (false≢true e)
+      no_place : (o : Option ℕ) → is_none o ≡ true → (gs : List ℕ) → eight_groups_at text o ≡ Some gs → full_in text ≡ Some gs
+      no_place None e gs h = h
+      no_place (Some at) e gs h = absurd (false≢true e)
 
 append_small : (xs ys : List ℕ) → AreSmall xs → AreSmall ys → AreSmall (xs ++ ys)
 append_small [] ys p q = q
@@ -486,7 +486,7 @@ zeros_small zero = tt
 zeros_small (suc n) = (omega arith, zeros_small n)
 
 groups_read : (text gs : List ℕ) → eight_groups_in text ≡ Some gs → AreSmall gs × (length gs ≡ 8)
-groups_read text gs h = cases (no_others_are_read text gs h) where
+groups_read text gs h = cases (no_others_are_addresses text gs h) where
   cases : IsFull text gs ⊎ IsShort text gs → AreSmall gs × (length gs ≡ 8)
   cases (inl full) = (groups_small full.texts gs full.each, full.eight)
   cases (inr short) =
@@ -494,9 +494,11 @@ groups_read text gs h = cases (no_others_are_read text gs h) where
       let zeros : List ℕ = replicate (8 - length short.left - length short.right) nil in
       let all : AreSmall (short.left ++ (zeros ++ short.right)) =
       append_small short.left (zeros ++ short.right) (groups_small short.before short.left short.each_left)
-      (append_small zeros short.right (zeros_small (8 - length short.left - length short.right)) (groups_small short.behind short.right short.each_right)) in
-      (subst AreSmall (sym short.groups_are) all , ap length short.groups_are
-      ∙ omega (arith, short.few, length-append short.left (zeros ++ short.right), length-append zeros short.right, length-replicate {A = ℕ} (8 - length short.left - length short.right) nil))
+      (append_small zeros short.right (zeros_small (8 - length short.left - length short.right)) (groups_small short.behind short.right short.each_right)) in (
+        subst AreSmall (sym short.groups_are) all,
+        ap length short.groups_are
+            ∙ omega (arith, short.few, length-append short.left (zeros ++ short.right), length-append zeros short.right, length-replicate {A = ℕ} (8 - length short.left - length short.right) nil),
+      )
 
 ipv6_small : (text : List ℕ) (n : ℕ) → ipv6_in text ≡ Some n → n < 2 ^ 128
 ipv6_small text n h =
@@ -512,12 +514,12 @@ first_big : (d : ℕ) (xs : List ℕ) → 0 < d → d < 16 → has_no_leading_ze
 first_big d xs some small =
     let other : not (digit_char d == 48) ≡ true = both_below d some (each_below (λ k. k == 0 || not (digit_char k == 48)) 16 refl d small) in
     rw_or (length (digit_char d ∷ xs) == 1) (not (digit_char d == 48)) other where
-  rw_or : (a b : Bool) → b ≡ true → (a || b) ≡ true
-  rw_or true b e = refl
-  rw_or false b e = e
+      rw_or : (a b : Bool) → b ≡ true → (a || b) ≡ true
+      rw_or true b e = refl
+      rw_or false b e = e
 
-  both_below : (d : ℕ) → 0 < d → (d == 0 || not (digit_char d == 48)) ≡ true → not (digit_char d == 48) ≡ true
-  both_below d some e = let ne : (d == 0) ≡ false = ne_eqb d 0 (λ z. omega (arith, z, some)) in rw ne at e
+      both_below : (d : ℕ) → 0 < d → (d == 0 || not (digit_char d == 48)) ≡ true → not (digit_char d == 48) ≡ true
+      both_below d some e = let ne : (d == 0) ≡ false = ne_eqb d 0 (λ z. omega (arith, z, some)) in rw ne at e
 
 group_lead : (g : ℕ) → g < 65536 → has_no_leading_zero (group_text g) ≡ true
 unfolding group_text
