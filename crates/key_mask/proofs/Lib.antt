@@ -1,5 +1,8 @@
+pub mod AddressLemmas
 pub mod BytesLemmas
 pub mod EightLemmas
+pub mod GroupLemmas
+pub mod HexLemmas
 pub mod Ipv6AgainLemmas
 pub mod Ipv6GrammarLemmas
 pub mod Ipv6PrintLemmas
@@ -13,7 +16,7 @@ pub mod PartKeyLemmas
 pub mod PartLemmas
 pub mod PrefixLemmas
 pub mod PrintLemmas
-pub mod Values
 pub mod SpellingLemmas
 pub mod ValueLemmas
+pub mod Values
 pub mod VectorLemmas
