@@ -10,7 +10,7 @@ use Rattle.key_mask.specs.Numbers.{hex_digit_in}
 use Rattle.key_mask.specs.Ipv6.{group_in, groups_value, ipv6_in, group_text, groups_before, ipv6_text}
 use Rattle.key_mask.proofs.NumberLemmas.{digit_again}
 use Rattle.key_mask.specs.Ipv6Grammar.{AreGroups, IsFull}
-use Rattle.key_mask.proofs.Ipv6GrammarLemmas.{all_are_read}
+use Rattle.key_mask.proofs.Ipv6GrammarLemmas.{addresses_are_read}
 
 abbrev pub AreSmall : List ℕ → Type 0
 AreSmall [] = Unit {0}
@@ -78,7 +78,7 @@ unfolding ipv6_in
 read_again gs small long =
     let text : List ℕ = join_with_byte 58 (map group_text gs) in
     let full : IsFull text gs = record { texts = map group_text gs; each = texts_are gs small; eight = long; text_is = refl } in
-    rw (all_are_read text gs (inl full)) refl
+    rw (addresses_are_read text gs (inl full)) refl
 
 pub ipv6_again : (n : ℕ) → n < 2 ^ 128 → ipv6_in (ipv6_text n) ≡ Some n
 unfolding ipv6_text

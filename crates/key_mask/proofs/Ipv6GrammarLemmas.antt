@@ -10,7 +10,7 @@ use Rattle.texts.proofs.CutLemmas.{free_of, split_last, split_more}
 use Rattle.key_mask.specs.Numbers.{◌>>=◌, hex_digit_in}
 use Rattle.key_mask.specs.Ipv6.{hex_after, group_in, groups_in, side_in, double_from, full_in, sides_in, eight_groups_at, eight_groups_in}
 use Rattle.key_mask.specs.Ipv6Grammar.{AreGroups, IsFull, IsShort}
-use Rattle.key_mask.specs.Laws.{AddressesAreRead, NoOthersAreRead}
+use Rattle.key_mask.specs.Laws.{AddressesAreRead, NoOthersAreAddresses}
 
 abbrev is_colon : ℕ → Bool
 is_colon b = b == 58
@@ -182,9 +182,9 @@ short_texts text groups h =
       h.groups_are,
     ) refl
 
-pub all_are_read : AddressesAreRead
-all_are_read text groups (inl full) = rw full.text_is (full_texts full.texts groups full.each full.eight)
-all_are_read text groups (inr short) = short_texts text groups short
+pub addresses_are_read : AddressesAreRead
+addresses_are_read text groups (inl full) = rw full.text_is (full_texts full.texts groups full.each full.eight)
+addresses_are_read text groups (inr short) = short_texts text groups short
 
 -- ---- what is read is in the grammar
 
@@ -274,6 +274,6 @@ others text groups (Some at) e h =
     let place : found.place ≡ at = omega (arith, found.place_is) in
     inr (sides_in_grammar text (take at text) (drop (at + 2) text) groups (rw place at found.text_is) h)
 
-pub no_others_are_read : NoOthersAreRead
+pub no_others_are_addresses : NoOthersAreAddresses
 unfolding eight_groups_in
-no_others_are_read text groups h = others text groups (double_from 0 text) refl h
+no_others_are_addresses text groups h = others text groups (double_from 0 text) refl h

@@ -225,16 +225,18 @@ key_adds found next item whole h =
     let number : ℕ = field_number read.field in
     let below : number < length found = omega (arith, number_below read.field, whole) in
     let here : slice_index next number ≡ read.prefix = ap (λ ns. get_or ns number 0) (sym read.next_is) ∙ get_or-set_same found number read.prefix 0 below in
-    let some : (read.prefix == 0) ≡ false = ne_eqb read.prefix 0 (prefix_some read.field (back is_slash item) read.prefix read.prefix_is) in
-    (ap length (sym read.next_is) ∙ length-set found number read.prefix ∙ whole , record {
-      field = read.field;
-      named = read.named;
-      added = λ spelled. rw (here, some) (ap (λ x. x ∷ []) (sym (item_is item read.field read.prefix read.named read.prefix_is spelled)));
-      others = λ other ne.
-          let same : slice_index next (field_number other) ≡ slice_index found (field_number other) =
-          ap (λ ns. get_or ns (field_number other) 0) (sym read.next_is) ∙ get_or-set_other found number (field_number other) read.prefix 0 ne in
-          rw same refl;
-    })
+    let some : (read.prefix == 0) ≡ false = ne_eqb read.prefix 0 (prefix_some read.field (back is_slash item) read.prefix read.prefix_is) in (
+      ap length (sym read.next_is) ∙ length-set found number read.prefix ∙ whole,
+      record {
+        field = read.field;
+        named = read.named;
+        added = λ spelled. rw (here, some) (ap (λ x. x ∷ []) (sym (item_is item read.field read.prefix read.named read.prefix_is spelled)));
+        others = λ other ne.
+            let same : slice_index next (field_number other) ≡ slice_index found (field_number other) =
+            ap (λ ns. get_or ns (field_number other) 0) (sym read.next_is) ∙ get_or-set_other found number (field_number other) read.prefix 0 ne in
+            rw same refl;
+      },
+    )
 
 none_at : (field : Field) → item_at None no_lengths field ≡ []
 none_at field = rw (none_stands field) refl

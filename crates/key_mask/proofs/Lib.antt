@@ -1,5 +1,8 @@
+pub mod AddressLemmas
 pub mod BytesLemmas
 pub mod EightLemmas
+pub mod GroupLemmas
+pub mod HexLemmas
 pub mod Ipv6AgainLemmas
 pub mod Ipv6GrammarLemmas
 pub mod Ipv6PrintLemmas
@@ -9,10 +12,11 @@ pub mod KeyLemmas
 pub mod MaskLemmas
 pub mod NumberLemmas
 pub mod OrderLemmas
+pub mod PartKeyLemmas
 pub mod PartLemmas
 pub mod PrefixLemmas
 pub mod PrintLemmas
-pub mod Values
 pub mod SpellingLemmas
 pub mod ValueLemmas
+pub mod Values
 pub mod VectorLemmas

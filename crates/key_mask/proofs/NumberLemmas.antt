@@ -145,7 +145,7 @@ pub digit_is : (c d : ℕ) → hex_digit_in c ≡ Some d → not (is_ascii_upper
 digit_is c d e h =
     elim (cases_lt c 123) [
       | inl low ↦
-          let lower : is_ascii_uppercase c ≡ false = elim (is_ascii_uppercase c) as (λ b. not b ≡ true → b ≡ false) [ | true ↦ λ z. absurd (false≢true z) | false ↦ λ z. refl ] h in
+          let lower : is_ascii_uppercase c ≡ false = elim (is_ascii_uppercase c) as (λ b. not b ≡ true → b ≡ false) [ true ↦ λ z. absurd (false≢true z) | false ↦ λ z. refl ] h in
           let both = and_parts (c == digit_char d) (nat_lt d 16) (spelled_cases c d (hex_digit_in c) e (each_below is_digit_spelled 123 refl c low) lower) in
           let small : nat_lt d 16 ≡ true = both.1 in
           (eqb-true c (digit_char d) both.0, grind (arith, nat_tests, small))

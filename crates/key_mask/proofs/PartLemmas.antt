@@ -63,7 +63,7 @@ length_positive field length = positive (is_address field) (width_of field) leng
 
 -- ---- the length that stands beside a field
 
-abbrev found : (Field → Bool) → List (Field × ℕ) → ℕ
+abbrev pub found : (Field → Bool) → List (Field × ℕ) → ℕ
 found test parts = unwrap_or (lookup test parts) 0
 
 first_fails : (test : Field → Bool) (part : Field × ℕ) (parts : List (Field × ℕ)) → 0 < part.1
@@ -81,7 +81,7 @@ absent test (part ∷ parts) d some none (suc k) h =
     absent test parts d (All-tail (λ part. 0 < part.1) part parts some) (rw fails at none) k (omega arith)
 
 -- where one is found, it stands in a part that passes
-present : (test : Field → Bool) (parts : List (Field × ℕ)) (d : Field × ℕ) → found test parts ≢ 0
+pub present : (test : Field → Bool) (parts : List (Field × ℕ)) (d : Field × ℕ) → found test parts ≢ 0
     → (k : ℕ) × (k < length parts) × (test (get_or parts k d).0 ≡ true) × (found test parts ≡ (get_or parts k d).1)
 present test [] d some = absurd (some refl)
 present test (part ∷ parts) d some =
@@ -121,7 +121,7 @@ pub record Hold (parts : List (Field × ℕ)) (lengths : List ℕ) : Type 0 wher
   pub valid : AreParts parts
 
 -- a part more, of a field that stands in none so far
-hold_push : (parts : List (Field × ℕ)) (lengths : List ℕ) (part : Field × ℕ) → Hold parts lengths
+pub hold_push : (parts : List (Field × ℕ)) (lengths : List ℕ) (part : Field × ℕ) → Hold parts lengths
     → get_or lengths (field_number part.0) 0 ≡ 0 → IsTrue (is_length part.0 part.1)
     → Hold (parts ++ part ∷ []) (set lengths (field_number part.0) part.1)
 hold_push parts lengths part held free allowed =

@@ -1,6 +1,7 @@
 -- Prefixes of fields, printed and read.
-use Rattle.std.proofs.Common.{◌≡◌, ◌≢◌, ℕ, ◌+◌, ◌^◌, ◌<◌, ◌≤◌, ◌==◌, ◌&&◌, Bool, true, false, not, cond, nat_le, List, [], ◌∷◌, ◌++◌, length, Option, None, Some, is_some, option_and_then, IsTrue, refl, ap, sym, ◌∙◌, arith, ⊎_elim, eq-eqb, eqb-true}
+use Rattle.std.proofs.Common.{◌≡◌, ◌≢◌, ℕ, ◌+◌, ◌^◌, ◌<◌, ◌≤◌, ◌==◌, ◌&&◌, Bool, true, false, not, cond, nat_le, List, [], ◌∷◌, ◌++◌, length, Option, None, Some, is_some, option_and_then, IsTrue, refl, ap, sym, ◌∙◌, subst, arith, ⊎_elim, eq-eqb, eqb-true}
 use Rattle.std.specs.List.{list_all}
+use Rattle.std.specs.Option.{option_map_or}
 use Rattle.std.specs.Fmt.{decimal}
 use Rattle.std.proofs.lemmas.Bool.{cases_eq, false≢true, ne_eqb}
 use Rattle.std.proofs.lemmas.Bool.Decides.{nat_tests}
@@ -10,8 +11,9 @@ use Rattle.key_mask.specs.declared.fields.Field.TheVariants.{SrcIp, DstIp, SrcPo
 use Rattle.key_mask.specs.Fields.{width_of, kind_of, prefix_digits, is_length}
 use Rattle.key_mask.specs.Numbers.{number_in}
 use Rattle.key_mask.specs.Items.{is_canonical_prefix, longest_prefix, not_zero, prefix_in, prefix_text}
-use Rattle.key_mask.proofs.NumberLemmas.{number_again, decimal_lead, decimal_pass, number_text}
-use Rattle.key_mask.proofs.PrintLemmas.{tail_of}
+use Rattle.key_mask.proofs.NumberLemmas.{number_again, decimal_lead, decimal_pass, digits_pass, number_read, number_text}
+use Rattle.std.specs.Str.Parse.{AllDigits}
+use Rattle.key_mask.specs.Laws.{tail_of}
 use Rattle.key_mask.specs.Spellings.{has_no_leading_zero}
 
 -- the digits that a prefix may have are enough for the whole width
@@ -50,14 +52,14 @@ length_within field n e = within (prefix_digits (kind_of field)) (width_of field
 -- ---- a prefix that is printed
 
 short_digits : (digits : Option ℕ) (width n : ℕ) → IsRow digits width → cond (is_some digits) (nat_le 1 n && nat_le n width) (n == width) ≡ true
-    → n ≢ width → length (decimal n) + 1 ≤ longest_prefix digits
+    → n ≢ width → length (decimal n) + 1 ≤ option_map_or (λ d. d + 1) digits 0
 short_digits None width n row e ne = absurd (ne (eqb-true n width e))
 short_digits (Some digits) width n row e ne =
     let fits = within (Some digits) width n row.some e in
     omega (arith, length-decimal-le digits n row.enough.0 (omega (arith, row.enough.1, fits.few)) (omega (arith, fits.few, row.few)))
 
 pub prefix_short : (field : Field) (n : ℕ) → IsTrue (is_length field n) → n ≢ width_of field
-    → length (decimal n) + 1 ≤ longest_prefix (prefix_digits (kind_of field))
+    → length (decimal n) + 1 ≤ longest_prefix field
 prefix_short field n e ne = short_digits (prefix_digits (kind_of field)) (width_of field) n (each_row field) e ne
 
 -- ---- and is read again
@@ -159,3 +161,48 @@ prefix_is field (Some text) p h spelled =
           ] rest
       | false ↦ λ lead rest. absurd (false≢true rest)
     ] refl whole
+
+-- ---- a prefix that is read is one of the field
+
+whole_allowed : (field : Field) → is_length field (width_of field) ≡ true
+whole_allowed SrcIp = refl
+whole_allowed DstIp = refl
+whole_allowed SrcPort = refl
+whole_allowed DstPort = refl
+whole_allowed Proto = refl
+whole_allowed Tos = refl
+whole_allowed EtherType = refl
+whole_allowed SrcIp6 = refl
+whole_allowed DstIp6 = refl
+
+behind_allowed : (digits : Option ℕ) (width p : ℕ) (text : List ℕ)
+    → option_and_then (λ d. option_and_then not_zero (number_in d width text)) digits ≡ Some p
+    → (cond (is_some digits) (nat_le 1 p && nat_le p width) (p == width) ≡ true) × AllDigits 10 text
+behind_allowed None width p text h = absurd (let wrong : ⊥ = cc in wrong)
+behind_allowed (Some digits) width p text h = inner (number_in digits width text) refl h where
+  inner : (o : Option ℕ) → number_in digits width text ≡ o → option_and_then not_zero o ≡ Some p
+      → ((nat_le 1 p && nat_le p width) ≡ true) × AllDigits 10 text
+  inner None e h = absurd (let wrong : ⊥ = cc in wrong)
+  inner (Some n) e h =
+      ⊎_elim
+      (λ (z : n ≡ 0). let t : (n == 0) ≡ true = eq-eqb n 0 z in let none : None ≡ Some p = rw t at h in absurd (let wrong : ⊥ = cc in wrong))
+      (λ (ne : n ≢ 0).
+      let t : (n == 0) ≡ false = ne_eqb n 0 ne in
+      let found : Some n ≡ Some p = rw t at h in
+      let same : n ≡ p = cc found in
+      let read = number_read digits width n text e in
+      let low : 1 ≤ p = omega (arith, same, ne) in
+      let high : p ≤ width = omega (arith, same, read.within) in
+      (grind (arith, nat_tests), read.digits))
+      (cases_eq n 0)
+
+pub prefix_allowed : (field : Field) (o : Option (List ℕ)) (p : ℕ) → prefix_in field o ≡ Some p → is_length field p ≡ true
+prefix_allowed field None p h = let same : width_of field ≡ p = cc h in subst (λ n. is_length field n ≡ true) same (whole_allowed field)
+prefix_allowed field (Some text) p h = (behind_allowed (prefix_digits (kind_of field)) (width_of field) p text h).0
+
+-- and its digits pass a test that digits pass
+pub behind_pass : (test : ℕ → Bool) → test 47 ≡ true → ((c : ℕ) → 48 ≤ c → c ≤ 57 → test c ≡ true) → (field : Field) (o : Option (List ℕ)) (p : ℕ)
+    → prefix_in field o ≡ Some p → list_all test (tail_of o) ≡ true
+behind_pass test slash each field None p h = refl
+behind_pass test slash each field (Some text) p h =
+    rw (slash, digits_pass test each text (behind_allowed (prefix_digits (kind_of field)) (width_of field) p text h).1) refl

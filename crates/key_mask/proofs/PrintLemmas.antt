@@ -10,6 +10,7 @@ use Rattle.texts.proofs.CutLemmas.{split_last, split_more}
 use Rattle.key_mask.specs.declared.fields.Field.{Field}
 use Rattle.key_mask.specs.declared.fields.Field.TheVariants.{SrcIp, DstIp, SrcPort, DstPort, Proto, Tos, EtherType, SrcIp6, DstIp6}
 use Rattle.key_mask.specs.Fields.{fields, field_number, name_of}
+use Rattle.key_mask.specs.Laws.{tail_of}
 use Rattle.key_mask.specs.Items.{field_named, is_slash, item_text, item_texts, items_text, longest_item, longest_items, with_field}
 
 -- ---- the line that the items make
@@ -93,11 +94,7 @@ cut_slash (x ∷ xs) b digits e =
       | false ↦ λ e. (ap (λ ys. x ∷ ys) (cut_slash xs b digits e).0, (cut_slash xs b digits e).1)
     ] e
 
--- the slash and what stands behind it
-abbrev pub tail_of : Option (List ℕ) → List ℕ
-tail_of None = []
-tail_of (Some text) = 47 ∷ text
-
+-- a text is what stands before its first slash, and the slash with what stands behind it
 pub item_joined : (item : List ℕ) → item ≡ front is_slash item ++ tail_of (back is_slash item)
 item_joined [] = refl
 item_joined (x ∷ xs) =

@@ -9,10 +9,10 @@ use Rattle.std.proofs.lemmas.Fmt.{decimal_digit}
 use Rattle.key_mask.specs.Fields.{fields, field_number, size_of, start_of}
 use Rattle.key_mask.specs.Items.{field_named, items_text}
 use Rattle.key_mask.specs.Ipv6.{group_in, groups_in, side_in, full_in, sides_in, eight_groups_in, ipv6_in, group_text, groups_before, ipv6_text}
-use Rattle.key_mask.specs.Keys.{key_in, key_text, longest_key, with_item}
+use Rattle.key_mask.specs.Keys.{is_canonical_key, key_in, key_text, longest_key, with_item}
 use Rattle.key_mask.specs.Masks.{lengths_of, mask_bytes_of}
 use Rattle.key_mask.specs.Numbers.{number_in, address_in, hex_in}
-use Rattle.key_mask.specs.Spellings.{value_in, value_text}
+use Rattle.key_mask.specs.Spellings.{is_canonical_value, value_in, value_text}
 use Rattle.key_mask.specs.Vectors.{value_at, with_value}
 
 -- ---- the table
@@ -252,6 +252,53 @@ whole_addresses = refl
 a_prefix : key_text (0 ∷ 8 ∷ 0 ∷ 0 ∷ 0 ∷ 0 ∷ 16 ∷ 0 ∷ 0 ∷ []) ≡ codes "dst_ip/8,ethertype"
 unfolding items_text
 a_prefix = rw (decimal_digit 8 (omega arith)) refl
+
+-- the fields out of their order, a zero in front, a prefix of a whole field
+a_canonical_key : is_canonical_key (codes "src_ip/8,tos,src_ip6/32") ≡ true
+unfolding is_canonical_key field_named number_in
+a_canonical_key = refl
+
+out_of_order : is_canonical_key (codes "tos,src_ip/8") ≡ false
+unfolding is_canonical_key field_named number_in
+out_of_order = refl
+
+twice : is_canonical_key (codes "tos,tos") ≡ false
+unfolding is_canonical_key field_named number_in
+twice = refl
+
+zero_before_the_prefix : is_canonical_key (codes "src_ip/08") ≡ false
+unfolding is_canonical_key field_named number_in
+zero_before_the_prefix = refl
+
+whole_prefix : is_canonical_key (codes "src_ip/32") ≡ false
+unfolding is_canonical_key field_named number_in
+whole_prefix = refl
+
+whole_ipv6_prefix : is_canonical_key (codes "src_ip6/128") ≡ false
+unfolding is_canonical_key field_named number_in
+whole_ipv6_prefix = refl
+
+-- canonical values
+spelled_out : is_canonical_value SrcIp6 (codes "2001:db8:0:0:0:0:0:1") ≡ true
+spelled_out = refl
+
+double_colon : is_canonical_value SrcIp6 (codes "2001:db8::1") ≡ false
+double_colon = refl
+
+upper_case : is_canonical_value SrcIp6 (codes "2001:DB8:0:0:0:0:0:1") ≡ false
+upper_case = refl
+
+zero_in_a_group : is_canonical_value SrcIp6 (codes "2001:db8:0:0:0:0:0:01") ≡ false
+zero_in_a_group = refl
+
+zero_in_an_address : is_canonical_value SrcIp (codes "10.0.0.01") ≡ false
+zero_in_an_address = refl
+
+upper_case_type : is_canonical_value EtherType (codes "0x86DD") ≡ false
+upper_case_type = refl
+
+zeros_of_a_type : is_canonical_value EtherType (codes "0x0800") ≡ true
+zeros_of_a_type = refl
 
 -- ---- numbers
 

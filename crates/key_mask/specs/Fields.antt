@@ -5,7 +5,8 @@ use Rattle.key_mask.specs.declared.fields.Field.TheVariants.{SrcIp, DstIp, SrcPo
 use Rattle.key_mask.specs.declared.fields.ValueKind.{ValueKind}
 use Rattle.key_mask.specs.declared.fields.ValueKind.TheVariants.{Ipv4, Port, Byte, Hex, Ipv6}
 
--- a row of the table of the fields: the field's number, its name in texts, its first byte, its bits, and what its values are
+-- a row of the table of the fields: the field's number, its name in texts, its first byte, its width in bits,
+-- and what its values are
 pub record Row : Type 0 where
   pub number : ℕ
   pub name : List ℕ

@@ -71,7 +71,8 @@ group_text g =
     if nat_lt g 16 then digit_char g ∷ []
     else (if nat_lt g 256 then digit_char (g / 16) ∷ digit_char (g % 16) ∷ []
     else (if nat_lt g 4096 then digit_char (g / 16 / 16) ∷ digit_char (g / 16 % 16) ∷ digit_char (g % 16) ∷ []
-    else digit_char (g / 16 / 16 / 16) ∷ digit_char (g / 16 / 16 % 16) ∷ digit_char (g / 16 % 16) ∷ digit_char (g % 16) ∷ []))
+    else digit_char (g / 16 / 16 / 16) ∷ digit_char (g / 16 / 16 % 16) ∷ digit_char (g / 16 % 16)
+    ∷ digit_char (g % 16) ∷ []))
 
 -- the last k groups of a number, before those behind them
 unfoldable pub groups_before : ℕ → ℕ → List ℕ → List ℕ

@@ -1,4 +1,4 @@
--- Lists of items with commas between, each of which names a field: what their readers and their printers share.
+-- Items with commas between, each of which names a field: what keys and filters share.
 use Rattle.std.specs.Prelude.{ℕ, ◌+◌, ◌==◌, ◌&&◌, Bool, true, false, not, nat_le, if◌then◌else◌, List, [], ◌∷◌, ◌++◌, find, length, slice_index, Option, None, Some, option_and_then, Result, Ok, Err}
 use Rattle.std.specs.List.{join_with_byte, sum_by}
 use Rattle.std.specs.Option.{option_map_or}
@@ -32,10 +32,12 @@ is_slash byte = byte == 47
 abbrev pub not_zero : ℕ → Option ℕ
 not_zero n = if n == 0 then None else Some n
 
--- the prefix length that a text behind the slash writes, of an address alone: digits of a number from 1 to the field's bits
+-- the prefix length that a text behind the slash writes, of an address alone: a number from 1 to the field's bits
 abbrev pub prefix_behind : Field → List ℕ → Option ℕ
 prefix_behind field text =
-    option_and_then (λ digits. option_and_then not_zero (number_in digits (width_of field) text)) (prefix_digits (kind_of field))
+    option_and_then
+    (λ digits. option_and_then not_zero (number_in digits (width_of field) text))
+    (prefix_digits (kind_of field))
 
 -- the prefix length by what stands behind the slash: the whole field where there is no slash
 abbrev pub prefix_in : Field → Option (List ℕ) → Option ℕ
@@ -44,16 +46,20 @@ prefix_in field (Some text) = prefix_behind field text
 
 -- a field that stands in no item before: its length is still 0
 abbrev pub fresh_field : List ℕ → Field → Result Field FieldKind
-fresh_field lengths field = if slice_index lengths (field_number field) == 0 then Ok field else Err RepeatedField
+fresh_field lengths field =
+    if slice_index lengths (field_number field) == 0 then Ok field else Err RepeatedField
 
 abbrev pub at_place : {A : Type 0} → ℕ → Result A FieldKind → Result A FieldFault
 at_place place (Ok found) = Ok found
 at_place place (Err kind) = Err (record { kind = kind; place = place })
 
--- what was found before with what these items add to it, the first of which stands at this place, or the fault of the first item at fault
-abbrev pub with_items : {A : Type 0} → (A → List ℕ → Result A FieldKind) → ℕ → A → List (List ℕ) → Result A FieldFault
+-- what was found before with what these items add to it, the first of which stands at this place, or the fault
+-- of the first item at fault
+abbrev pub with_items : {A : Type 0} → (A → List ℕ → Result A FieldKind) → ℕ → A → List (List ℕ)
+    → Result A FieldFault
 with_items add place found [] = Ok found
-with_items add place found (item ∷ items) = at_place place (add found item) >>= λ next. with_items add (place + (length item + 1)) next items
+with_items add place found (item ∷ items) =
+    at_place place (add found item) >>= λ next. with_items add (place + (length item + 1)) next items
 
 -- ---- printing
 
@@ -85,17 +91,17 @@ items_text values lengths = join_with_byte 44 (item_texts values lengths fields)
 unfoldable pub with_field : Option (List ℕ) → List ℕ → Field → ℕ → List ℕ
 with_field values line field prefix =
     if prefix == 0 then line
-    else (if length line == 0 then item_text values field prefix else line ++ 44 ∷ item_text values field prefix)
+    else (if length line == 0 then item_text values field prefix
+    else line ++ 44 ∷ item_text values field prefix)
 
 -- how many bytes a slash and a prefix have at most
-abbrev pub longest_prefix : Option ℕ → ℕ
-longest_prefix None = 0
-longest_prefix (Some digits) = digits + 1
+abbrev pub longest_prefix : Field → ℕ
+longest_prefix field = option_map_or (λ digits. digits + 1) (prefix_digits (kind_of field)) 0
 
 -- how many bytes a field's item has at most, with its value or without
 abbrev pub longest_item : Bool → Field → ℕ
 longest_item valued field =
-    length (name_of field) + (if valued then longest_value (kind_of field) + 1 else 0) + longest_prefix (prefix_digits (kind_of field))
+    length (name_of field) + (if valued then longest_value (kind_of field) + 1 else 0) + longest_prefix field
 
 -- how many bytes the items of all fields have at most, each with a comma
 abbrev pub longest_items : Bool → ℕ
@@ -107,11 +113,15 @@ longest_items valued = sum_by (λ field. longest_item valued field + 1) fields
 abbrev pub is_canonical_prefix : Field → Option (List ℕ) → Bool
 is_canonical_prefix field None = true
 is_canonical_prefix field (Some text) =
-    has_no_leading_zero text && option_map_or (λ prefix. not (prefix == width_of field)) (prefix_behind field text) false
+    has_no_leading_zero text
+    && option_map_or (λ prefix. not (prefix == width_of field)) (prefix_behind field text) false
 
--- items in the fields' order from a field on, no field twice, each spelled as its field's items are; a name ends at the first byte that passes the test
+-- items in the fields' order from a field on, no field twice, each spelled as its field's items are; a name ends
+-- at the first byte that passes the test
 abbrev pub are_in_order : (ℕ → Bool) → (Field → List ℕ → Bool) → ℕ → List (List ℕ) → Bool
 are_in_order ends is_spelled least [] = true
 are_in_order ends is_spelled least (item ∷ items) =
-    option_map_or (λ field. nat_le least (field_number field) && (is_spelled field item && are_in_order ends is_spelled (field_number field + 1) items))
+    option_map_or
+    (λ field. nat_le least (field_number field)
+    && (is_spelled field item && are_in_order ends is_spelled (field_number field + 1) items))
     (field_named (front ends item)) false

@@ -1,4 +1,4 @@
--- Keys as texts: items with commas between, each a field's name, for an address with `/` and a prefix or without.
+-- Keys as texts: items with commas between, each a field's name, for an address with `/` and a prefix or not.
 use Rattle.std.specs.Prelude.{ℕ, Bool, false, List, slice_set, None, ok_or, Result, Ok}
 use Rattle.texts.specs.Cuts.{front, back, parts}
 use Rattle.key_mask.specs.declared.fields.Field.{Field}
@@ -33,7 +33,7 @@ longest_key = longest_items false
 abbrev pub is_key_item : Field → List ℕ → Bool
 is_key_item field item = is_canonical_prefix field (back is_slash item)
 
--- a key in its one canonical spelling: one comma between items, the fields in their order, no zeros in front of a prefix,
--- and no prefix of a whole field
+-- a key in its one canonical spelling: one comma between items, the fields in their order, no zeros in front of
+-- a prefix, and no prefix of a whole field
 unfoldable pub is_canonical_key : List ℕ → Bool
 is_canonical_key text = are_in_order is_slash is_key_item 0 (parts 44 text)

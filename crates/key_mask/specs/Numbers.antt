@@ -22,7 +22,8 @@ up_to limit n = if nat_le n limit then Some n else None
 
 -- one to `most` decimal digits of a number up to the limit
 unfoldable pub number_in : ℕ → ℕ → List ℕ → Option ℕ
-number_in most limit text = if length text == 0 || nat_lt most (length text) then None else digits_after 0 text >>= up_to limit
+number_in most limit text =
+    if length text == 0 || nat_lt most (length text) then None else digits_after 0 text >>= up_to limit
 
 abbrev pub is_dot : ℕ → Bool
 is_dot byte = byte == 46

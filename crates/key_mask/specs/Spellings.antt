@@ -30,7 +30,9 @@ address_text n = join_with_byte 46 (map decimal (bytes_high_first 4 n))
 
 -- `0x` and four digits in lower case
 unfoldable pub hex_text : ℕ → List ℕ
-hex_text n = 48 ∷ 120 ∷ digit_char (n / 16 / 16 / 16) ∷ digit_char (n / 16 / 16 % 16) ∷ digit_char (n / 16 % 16) ∷ digit_char (n % 16) ∷ []
+hex_text n =
+    48 ∷ 120 ∷ digit_char (n / 16 / 16 / 16) ∷ digit_char (n / 16 / 16 % 16) ∷ digit_char (n / 16 % 16)
+    ∷ digit_char (n % 16) ∷ []
 
 -- the canonical spelling of a value of this kind
 abbrev pub kind_text : ValueKind → ℕ → List ℕ

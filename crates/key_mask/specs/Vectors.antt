@@ -19,4 +19,5 @@ value_at bytes field = big_endian (bytes_at bytes field)
 -- the vector with this value of the field, and all else as it is
 unfoldable pub with_value : List ℕ → Field → ℕ → List ℕ
 with_value bytes field value =
-    take (start_of field) bytes ++ (bytes_high_first (size_of field) value ++ drop (start_of field + size_of field) bytes)
+    take (start_of field) bytes
+    ++ (bytes_high_first (size_of field) value ++ drop (start_of field + size_of field) bytes)

@@ -1,7 +1,7 @@
 //! Items as they are printed: one canonical text for each mask, and for each value under it.
 ghost use Rattle.std.specs.Prelude.{◌≡◌, ◌≢◌, ◌+◌, ◌≤◌, ◌++◌, IsTrue, length, is_some};
 ghost use Rattle.std.specs.Option.{option_copied};
-ghost use Rattle.key_mask.specs.Fields.{kind_of, is_length, prefix_digits};
+ghost use Rattle.key_mask.specs.Fields.{is_length};
 ghost use Rattle.key_mask.specs.Masks.{AreLengths};
 ghost use Rattle.key_mask.specs.Items.{items_text, with_field, prefix_text, longest_item, longest_items, longest_prefix};
 
@@ -36,7 +36,8 @@ fn put_field(line: &mut Line, values: Option<&KeyVec>, field: Field, prefix: u8)
     requires room { length line.old.bytes + longest_item (is_some values) field + 1 ≤ 512 }
     requires fits { prefix ≢ 0 → IsTrue (is_length field prefix) }
     ensures text { line.new.bytes ≡ with_field (option_copied values.entry) line.old.bytes field prefix }
-    ensures short { length line.new.bytes ≤ length line.old.bytes + longest_item (is_some values.entry) field + 1 }
+    ensures short { let most = longest_item (is_some values.entry) field + 1 in
+        length line.new.bytes ≤ length line.old.bytes + most }
 {
     if prefix == 0 {
         return;
@@ -54,10 +55,10 @@ fn put_field(line: &mut Line, values: Option<&KeyVec>, field: Field, prefix: u8)
 
 /// Appends a slash and the prefix length, where it is not the whole field.
 fn put_prefix(line: &mut Line, field: Field, prefix: u8)
-    requires room { length line.old.bytes + longest_prefix (prefix_digits (kind_of field)) ≤ 512 }
+    requires room { length line.old.bytes + longest_prefix field ≤ 512 }
     requires fits { IsTrue (is_length field prefix) }
     ensures text { line.new.bytes ≡ line.old.bytes ++ prefix_text field prefix }
-    ensures short { length line.new.bytes ≤ length line.old.bytes + longest_prefix (prefix_digits (kind_of field)) }
+    ensures short { length line.new.bytes ≤ length line.old.bytes + longest_prefix field }
 {
     if prefix != field.width() {
         line.push_str("/");

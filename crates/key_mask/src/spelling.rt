@@ -41,7 +41,8 @@ fn put_address(line: &mut Line, address: u32)
 /// Appends four numbers with dots between.
 fn put_dotted(line: &mut Line, a: u8, b: u8, c: u8, d: u8)
     requires { length line.old.bytes + 15 ≤ 512 }
-    ensures text { line.new.bytes ≡ line.old.bytes ++ (decimal a ++ 46 ∷ (decimal b ++ 46 ∷ (decimal c ++ 46 ∷ decimal d))) }
+    ensures text { line.new.bytes
+        ≡ line.old.bytes ++ (decimal a ++ 46 ∷ (decimal b ++ 46 ∷ (decimal c ++ 46 ∷ decimal d))) }
     ensures short { length line.new.bytes ≤ length line.old.bytes + 15 }
 {
     line.push_str(Buffer::new().format(a));

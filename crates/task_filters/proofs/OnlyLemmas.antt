@@ -28,7 +28,8 @@ use Rattle.key_mask.proofs.NumberLemmas.{digit_pass}
 use Rattle.key_mask.proofs.OrderLemmas.{IsAdded, IsSpelled, item_at, items_at, named_is, only_items, printed_in_order}
 use Rattle.key_mask.proofs.PartLemmas.{at_number, number_below}
 use Rattle.key_mask.proofs.PrefixLemmas.{prefix_again, prefix_canonical, prefix_some}
-use Rattle.key_mask.proofs.PrintLemmas.{cut_slash, item_joined, items_plain, name_found, parts_joined, tail_of}
+use Rattle.key_mask.proofs.PrintLemmas.{cut_slash, item_joined, items_plain, name_found, parts_joined}
+use Rattle.key_mask.specs.Laws.{tail_of}
 use Rattle.key_mask.proofs.SpellingLemmas.{value_canonical}
 use Rattle.key_mask.proofs.SpellingLemmas
 use Rattle.key_mask.proofs.PrefixLemmas

@@ -9,7 +9,7 @@ use Rattle.key_mask.specs.Numbers.{number_in, address_in, hex_in}
 use Rattle.key_mask.specs.Spellings.{address_text, hex_text}
 use Rattle.key_mask.specs.Vectors.{value_at, with_value}
 use Rattle.task_filters.specs.Filters.{Pattern, passes, are_disjoint}
-use Rattle.task_filters.specs.Terms.{filter_in, terms_in, with_term}
+use Rattle.task_filters.specs.Terms.{filter_in, is_canonical_filter, terms_in, with_term}
 use Rattle.task_filters.specs.Printing.{filter_text, longest_filter}
 
 -- a filter of all fields fits a line
@@ -131,3 +131,32 @@ a_kind : filter_text (record {
     ≡ codes "proto:6,ethertype:0x86dd"
 unfolding filter_text items_text value_at hex_text digits
 a_kind = refl
+
+-- canonical texts
+everything_canonical : is_canonical_filter (codes "all") ≡ true
+unfolding is_canonical_filter
+everything_canonical = refl
+
+a_canonical_filter : is_canonical_filter (codes "src_ip:10.0.0.0/8,proto:6,ethertype:0x0800") ≡ true
+unfolding is_canonical_filter field_named address_in number_in hex_in
+a_canonical_filter = refl
+
+a_canonical_ipv6_filter : is_canonical_filter (codes "src_ip6:2001:db8:0:0:0:0:0:0/32") ≡ true
+unfolding is_canonical_filter field_named number_in group_in groups_in full_in eight_groups_in ipv6_in
+a_canonical_ipv6_filter = refl
+
+group_left_out : is_canonical_filter (codes "src_ip6:2001:db8::/32") ≡ false
+unfolding is_canonical_filter field_named
+group_left_out = refl
+
+bit_past_the_prefix : is_canonical_filter (codes "src_ip:10.1.0.0/8") ≡ false
+unfolding is_canonical_filter field_named address_in number_in
+bit_past_the_prefix = refl
+
+zero_in_front : is_canonical_filter (codes "proto:06") ≡ false
+unfolding is_canonical_filter field_named number_in
+zero_in_front = refl
+
+out_of_order : is_canonical_filter (codes "tos:1,proto:6") ≡ false
+unfolding is_canonical_filter field_named number_in
+out_of_order = refl

@@ -39,7 +39,8 @@ AreDisjoint one two = (vector : List ℕ) → IsVector vector → Matches one ve
 
 -- the bits of both masks in which the values differ
 abbrev pub difference : Pattern → Pattern → List ℕ
-difference one two = and_bytes (and_bytes (xor_bytes one.value two.value) (mask_bytes_of one.mask)) (mask_bytes_of two.mask)
+difference one two =
+    and_bytes (and_bytes (xor_bytes one.value two.value) (mask_bytes_of one.mask)) (mask_bytes_of two.mask)
 
 abbrev pub some_bit : ℕ → Bool
 some_bit byte = not (byte == 0)

@@ -10,4 +10,5 @@ FilterAgain = (pattern : Pattern) → IsFilter pattern → filter_in (filter_tex
 
 -- and no other canonical text is: a canonical text that is read as a filter is the filter's text
 abbrev pub OnlyFilter : Type 0
-OnlyFilter = (text : List ℕ) (pattern : Pattern) → filter_in text ≡ Ok pattern → IsTrue (is_canonical_filter text) → text ≡ filter_text pattern
+OnlyFilter = (text : List ℕ) (pattern : Pattern) → filter_in text ≡ Ok pattern
+    → IsTrue (is_canonical_filter text) → text ≡ filter_text pattern

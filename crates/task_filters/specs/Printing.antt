@@ -7,7 +7,8 @@ use Rattle.task_filters.specs.Filters.{Pattern}
 
 -- the one canonical text of a filter: `all`, or its fields in their order, each with its value
 unfoldable pub filter_text : Pattern → List ℕ
-filter_text pattern = if bytes_eq pattern.mask no_lengths then codes "all" else items_text (Some pattern.value) pattern.mask
+filter_text pattern =
+    if bytes_eq pattern.mask no_lengths then codes "all" else items_text (Some pattern.value) pattern.mask
 
 -- how many bytes it has at most
 abbrev pub longest_filter : ℕ

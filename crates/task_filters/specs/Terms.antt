@@ -1,4 +1,5 @@
--- Filters as texts: `all`, or items with commas between, each `FIELD:VALUE`, for an address with `/` and a prefix or without.
+-- Filters as texts: `all`, or items with commas between, each `FIELD:VALUE`, for an address with `/` and a prefix
+-- or without.
 use Rattle.std.specs.Prelude.{ℕ, ◌==◌, ◌&&◌, ◌||◌, Bool, false, if◌then◌else◌, List, replicate, slice_set, codes, Option, None, Some, ok_or, option_and_then, Result, Ok}
 use Rattle.std.specs.Int.{bytes_high_first}
 use Rattle.std.specs.Str.{bytes_eq}
@@ -27,7 +28,8 @@ abbrev pub value_behind : Field → Option (List ℕ) → Option ℕ
 value_behind field None = None
 value_behind field (Some text) = value_in field (front is_slash text)
 
--- what items say: the values as they are written, not cut at their prefixes, and the prefix lengths; with one field more
+-- what items say, with one field more: the values as they are written, not cut at their prefixes, and the
+-- prefix lengths
 abbrev pub with_both : Pattern → Field → ℕ → ℕ → Pattern
 with_both found field prefix value = record {
   value = with_value found.value field value;
@@ -49,7 +51,8 @@ no_terms = record { value = replicate 48 0; mask = no_lengths }
 
 -- what the items of a filter say, or the fault of the first item at fault
 unfoldable pub terms_in : List ℕ → Result Pattern FieldFault
-terms_in text = if bytes_eq text (codes "all") then Ok no_terms else with_items with_term 0 no_terms (parts 44 text)
+terms_in text =
+    if bytes_eq text (codes "all") then Ok no_terms else with_items with_term 0 no_terms (parts 44 text)
 
 -- what the mask leaves of the values: bits of an address past its prefix count as 0
 abbrev pub kept_terms : Pattern → Pattern
@@ -66,7 +69,8 @@ abbrev pub is_cut : Field → Option ℕ → Option ℕ → Bool
 is_cut field None value = false
 is_cut field (Some prefix) None = false
 is_cut field (Some prefix) (Some value) =
-    bytes_eq (and_bytes (bytes_high_first (size_of field) value) (prefix_bytes prefix (size_of field))) (bytes_high_first (size_of field) value)
+    let bytes = bytes_high_first (size_of field) value in
+    bytes_eq (and_bytes bytes (prefix_bytes prefix (size_of field))) bytes
 
 -- what stands behind the colon: a canonical value with no bit past its prefix, and a canonical prefix
 abbrev pub is_canonical_rest : Field → Option (List ℕ) → Bool
@@ -79,7 +83,9 @@ is_canonical_rest field (Some rest) =
 abbrev pub is_filter_item : Field → List ℕ → Bool
 is_filter_item field item = is_canonical_rest field (back is_colon item)
 
--- a filter in its one canonical spelling: `all`, or one comma between items, the fields in their order, no zeros in front of a number,
--- letters in lower case, no group of an IPv6 address left out, no bit past a prefix, and no prefix of a whole field
+-- a filter in its one canonical spelling: `all`, or one comma between items, the fields in their order, no zeros
+-- in front of a number, letters in lower case, no group of an IPv6 address left out, no bit past a prefix, and
+-- no prefix of a whole field
 unfoldable pub is_canonical_filter : List ℕ → Bool
-is_canonical_filter text = bytes_eq text (codes "all") || are_in_order is_colon is_filter_item 0 (parts 44 text)
+is_canonical_filter text =
+    bytes_eq text (codes "all") || are_in_order is_colon is_filter_item 0 (parts 44 text)

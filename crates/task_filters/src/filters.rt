@@ -1,7 +1,7 @@
 //! A filter matches the vectors that have its value under its mask.
 ghost use Rattle.std.specs.Prelude.{◌≡◌, ◌≤◌, ◌↔◌, IsTrue, IfOk, Ok, length};
 ghost use Rattle.key_mask.specs.Bytes.{and_bytes};
-ghost use Rattle.task_filters.specs.Filters.{IsFilter, IsVector, Matches, passes, AreDisjoint, are_disjoint};
+ghost use Rattle.task_filters.specs.Filters.{Pattern, IsFilter, IsVector, Matches, passes, AreDisjoint, are_disjoint};
 ghost use Rattle.task_filters.specs.Printing.{filter_text, longest_filter};
 ghost use Rattle.task_filters.specs.Terms.{filter_in, is_canonical_filter};
 
@@ -98,7 +98,9 @@ impl Filter {
 /// Whether the values differ in a bit of both masks.
 #[tactic(auto, unfolding(crate::specs::Filters::are_disjoint))]
 fn differ(one: &KeyVec, one_mask: &Mask, two: &KeyVec, two_mask: &Mask) -> bool
-    ensures { result ≡ are_disjoint (record { value = one.now; mask = one_mask.now }) (record { value = two.now; mask = two_mask.now }) }
+    ensures { let first : Pattern = record { value = one.now; mask = one_mask.now } in
+        let second : Pattern = record { value = two.now; mask = two_mask.now } in
+        result ≡ are_disjoint first second }
 {
     let apart = KeyVec(xor_of(&one.0, &two.0));
     let both = apart.masked(one_mask).masked(two_mask);
