@@ -2,7 +2,7 @@
 use Rattle.std.proofs.Common.{◌≡◌, ℕ, List, [], ◌∷◌, map, refl}
 use Rattle.std.specs.Prelude.{true, false, None, Some, take}
 use Rattle.addr_translate.specs.Blocks.{Block}
-use Rattle.partition_pool.specs.Regions.{are_apart, block_at, free_block, free_registers, by_base, without}
+use Rattle.partition_pool.specs.Regions.{are_apart, free_block, free_registers, by_base, without}
 use Rattle.partition_pool.specs.Nodes.{has_free, node, tree_of, largest_free}
 use Rattle.partition_pool.specs.Kept.{blocks_from, place}
 

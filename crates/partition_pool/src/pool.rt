@@ -15,7 +15,7 @@ use std::marker::Model;
 pub type OutOfMemory = AllocError;
 
 /// The partitions of an array of `2^bits` registers, 5 to 20 bits: aligned regions of at least
-/// `2^(bits - split)` registers, 1 where `split`, 5 to 10, is greater than `bits`.
+/// `2^(bits - split)` registers, or of 1 where `split`, 5 to 10, is more than `bits`.
 pub struct Pool {
     number: u32,
     split: u32,
@@ -41,6 +41,7 @@ impl Model for Pool {
     ghost invariant = { λ p. IsKept p.levels.array_bits p.levels.least p.split p.starts.items p.nodes.items };
 }
 
+/// So many zeros.
 fn zeros(alloc: Global, count: usize) -> Result<Vec<u8>, OutOfMemory>
     ensures { IfOk result (λ v. v.items ≡ replicate count 0) }
 {
@@ -118,7 +119,7 @@ impl Pool {
         size_told(root(self.nodes.as_slice(), self.levels))
     }
 
-    /// The free partition of the least base. Its size is one of the pool's.
+    /// The free partition of `2^bits` registers with the least base.
     pub fn find(&self, bits: u32) -> Option<Region>
         requires least { least_bits self.now ≤ bits }
         requires most { bits ≤ self.now.bits }

@@ -1,6 +1,5 @@
-use Rattle.std.proofs.Common.{arith, ap, sym, ◌∙◌, subst, ℕ, List}
+use Rattle.std.proofs.Common.{arith, sym, subst, ℕ, List}
 use Rattle.addr_translate.specs.Blocks.{Block}
-use Rattle.partition_pool.specs.Nodes.{largest_free}
 use Rattle.partition_pool.specs.Kept.{IsTree, blocks_from}
 use Rattle.partition_pool.proofs.Halves.{node_le}
 use Rattle.partition_pool.proofs.pool.Pool.largest.Goals as goal

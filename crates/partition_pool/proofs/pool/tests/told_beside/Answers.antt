@@ -1,4 +1,4 @@
-use Rattle.std.proofs.Common.{◌≡◌, ap, sym, ◌∙◌, subst, List}
+use Rattle.std.proofs.Common.{◌≡◌, ap, sym, subst, List}
 use Rattle.std.specs.Prelude.{Contains}
 use Rattle.addr_translate.specs.Blocks.{Block}
 use Rattle.partition_pool.specs.Regions.{put_by_base}
