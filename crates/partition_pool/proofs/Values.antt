@@ -25,6 +25,27 @@ half_tree : take 3 (tree_of (at 0 4 ∷ []) 5 0) ≡ 5 ∷ 0 ∷ 5 ∷ []
 unfolding tree_of node has_free
 half_tree = refl
 
+-- the other 16 registers are what is left
+upper_found : free_block (at 0 4 ∷ []) 5 4 ≡ Some (at 16 4)
+unfolding free_block
+upper_found = refl
+
+half_registers : free_registers (at 0 4 ∷ []) 5 ≡ 16
+half_registers = refl
+
+half_largest : largest_free (at 0 4 ∷ []) 5 0 ≡ 16
+unfolding node has_free
+half_largest = refl
+
+-- all 32 registers are one partition, found once
+whole_found : free_block [] 5 5 ≡ Some (at 0 5)
+unfolding free_block
+whole_found = refl
+
+whole_taken : free_block (at 0 5 ∷ []) 5 5 ≡ None
+unfolding free_block
+whole_taken = refl
+
 -- three of 8 registers are taken, and the second is given back: 16 registers are free, and no 16 of them in
 -- one region
 abbrev x_y_z : List Block

@@ -30,7 +30,7 @@ tree_of taken array_bits least =
     flat_map (λ depth. map (node taken least (array_bits - depth)) (range_with_len 0 (2 ^ depth)))
     (range_with_len 0 (suc (array_bits - least)))
 
--- the size that a node tells, 0 for none
+-- the size that a node stands for, 0 for none
 abbrev pub size_of : ℕ → ℕ
 size_of zero = 0
 size_of (suc n) = 2 ^ n

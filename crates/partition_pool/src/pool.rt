@@ -7,7 +7,7 @@ ghost use Rattle.partition_pool.specs.Pools.{least_bits, holding_of};
 ghost use Rattle.partition_pool.specs.Nodes.{tree_of, largest_free};
 
 use crate::lease::{Frozen, Lease, Live};
-use crate::tree::{Levels, is_whole, least_free, mark, power, root, size_told, taken_size};
+use crate::tree::{Levels, is_whole, least_free, mark, power, root, size_at_node, taken_size};
 use addr_translate::Region;
 use std::alloc::{AllocError, Global};
 use std::marker::Model;
@@ -116,7 +116,7 @@ impl Pool {
     pub fn largest(&self) -> u32
         ensures { result ≡ largest_free self.now.taken self.now.bits (least_bits self.now) }
     {
-        size_told(root(self.nodes.as_slice(), self.levels))
+        size_at_node(root(self.nodes.as_slice(), self.levels))
     }
 
     /// The free partition of `2^bits` registers with the least base.
