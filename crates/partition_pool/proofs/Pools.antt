@@ -14,7 +14,7 @@ use Rattle.partition_pool.specs.Regions.{IsPartition, is_free, block_at, put_by_
 use Rattle.partition_pool.specs.Kept.{blocks_from, HasLevels, Becomes, IsKept, place, Marks}
 use Rattle.partition_pool.proofs.Changes.{whole_pow, lies_in_range, node_within}
 use Rattle.partition_pool.proofs.Levels.{place_inside}
-use Rattle.partition_pool.proofs.Orders.{aligned_is, put_in_order, without_in_order, few_in_order, length-put_by_base, take_becomes, give_becomes, all_put, all_without}
+use Rattle.partition_pool.proofs.Orders.{is_inside, aligned_is, put_in_order, without_in_order, few_in_order, length-put_by_base, take_becomes, give_becomes, all_put, all_without}
 use Rattle.partition_pool.proofs.Starts.{start, put_start, free_start, is_start, drop_start, blocks_none}
 
 pub whole_again : (n : ℕ) (new old : List ℕ) → length new ≡ n → take n (new ++ drop (length new) old) ≡ new
@@ -67,6 +67,21 @@ spot array_bits least region is big inside =
       is_first = ap made (ap (λ n. n * 2 ^ least) z ∙ base_by_least least region is big);
       is_at = aligned_is region is;
     }
+
+-- where a partition of the pool's sizes lies
+pub size_spot : (array_bits least split : ℕ) (region : Block) → IsAligned region.base region.bits
+    → least ≡ array_bits - split → array_bits - split ≤ region.bits
+    → region.base + 2 ^ region.bits ≤ 2 ^ array_bits → IsSpot array_bits least region
+size_spot array_bits least split region is least_is large inside =
+    spot array_bits least region is (omega arith) inside
+
+-- where a taken region lies
+pub taken_spot : (array_bits least : ℕ) (taken : List Block) (region : Block)
+    → IsAligned region.base region.bits
+    → ArePartitions least array_bits taken → Contains taken region → IsSpot array_bits least region
+taken_spot array_bits least taken region is partitions held =
+    let lies = is_inside least 0 (2 ^ array_bits) region taken partitions.order held in
+    spot array_bits least region is lies.big lies.below
 
 pub put_blocks : (array_bits least : ℕ) (starts : List ℕ) (region : Block) → IsSpot array_bits least region
     → length starts ≡ 2 ^ (array_bits - least) → is_free (blocks_from least 0 starts) region ≡ true

@@ -2,7 +2,7 @@
 use Rattle.std.proofs.Common.{◌≡◌, ℕ, List, [], ◌∷◌, map, refl}
 use Rattle.std.specs.Prelude.{true, false, None, Some, take}
 use Rattle.addr_translate.specs.Blocks.{Block}
-use Rattle.partition_pool.specs.Regions.{are_apart, block_at, free_block, free_registers, by_base, without}
+use Rattle.partition_pool.specs.Regions.{are_apart, free_block, free_registers, by_base, without}
 use Rattle.partition_pool.specs.Nodes.{has_free, node, tree_of, largest_free}
 use Rattle.partition_pool.specs.Kept.{blocks_from, place}
 
@@ -24,6 +24,27 @@ half_found = refl
 half_tree : take 3 (tree_of (at 0 4 ∷ []) 5 0) ≡ 5 ∷ 0 ∷ 5 ∷ []
 unfolding tree_of node has_free
 half_tree = refl
+
+-- the other 16 registers are what is left
+upper_found : free_block (at 0 4 ∷ []) 5 4 ≡ Some (at 16 4)
+unfolding free_block
+upper_found = refl
+
+half_registers : free_registers (at 0 4 ∷ []) 5 ≡ 16
+half_registers = refl
+
+half_largest : largest_free (at 0 4 ∷ []) 5 0 ≡ 16
+unfolding node has_free
+half_largest = refl
+
+-- all 32 registers are one partition, found once
+whole_found : free_block [] 5 5 ≡ Some (at 0 5)
+unfolding free_block
+whole_found = refl
+
+whole_taken : free_block (at 0 5 ∷ []) 5 5 ≡ None
+unfolding free_block
+whole_taken = refl
 
 -- three of 8 registers are taken, and the second is given back: 16 registers are free, and no 16 of them in
 -- one region

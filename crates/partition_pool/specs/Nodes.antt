@@ -23,14 +23,14 @@ node_among taken bits i least (suc count) =
 unfoldable pub node : List Block → ℕ → ℕ → ℕ → ℕ
 node taken least bits i = node_among taken bits i least (suc bits - least)
 
--- all nodes, level by level from the whole array down, the lower half first: the halves of place k are at 2k
--- + 1 and 2k + 2
+-- all nodes, level by level from the whole array down, the lower half first:
+-- the halves of place k are at 2k + 1 and 2k + 2
 unfoldable pub tree_of : List Block → ℕ → ℕ → List ℕ
 tree_of taken array_bits least =
     flat_map (λ depth. map (node taken least (array_bits - depth)) (range_with_len 0 (2 ^ depth)))
     (range_with_len 0 (suc (array_bits - least)))
 
--- the size that a node tells, 0 for none
+-- the size that a node stands for, 0 for none
 abbrev pub size_of : ℕ → ℕ
 size_of zero = 0
 size_of (suc n) = 2 ^ n

@@ -7,7 +7,7 @@ ghost use Rattle.partition_pool.specs.Pools.{least_bits, holding_of};
 ghost use Rattle.partition_pool.specs.Nodes.{tree_of, largest_free};
 
 use crate::lease::{Frozen, Lease, Live};
-use crate::tree::{Levels, is_whole, least_free, mark, power, root, size_told, taken_size};
+use crate::tree::{Levels, is_whole, least_free, mark, power, root, size_at_node, taken_size};
 use addr_translate::Region;
 use std::alloc::{AllocError, Global};
 use std::marker::Model;
@@ -15,7 +15,7 @@ use std::marker::Model;
 pub type OutOfMemory = AllocError;
 
 /// The partitions of an array of `2^bits` registers, 5 to 20 bits: aligned regions of at least
-/// `2^(bits - split)` registers, 1 where `split`, 5 to 10, is greater than `bits`.
+/// `2^(bits - split)` registers, or of 1 where `split`, 5 to 10, is more than `bits`.
 pub struct Pool {
     number: u32,
     split: u32,
@@ -41,6 +41,7 @@ impl Model for Pool {
     ghost invariant = { λ p. IsKept p.levels.array_bits p.levels.least p.split p.starts.items p.nodes.items };
 }
 
+/// So many zeros.
 fn zeros(alloc: Global, count: usize) -> Result<Vec<u8>, OutOfMemory>
     ensures { IfOk result (λ v. v.items ≡ replicate count 0) }
 {
@@ -115,10 +116,10 @@ impl Pool {
     pub fn largest(&self) -> u32
         ensures { result ≡ largest_free self.now.taken self.now.bits (least_bits self.now) }
     {
-        size_told(root(self.nodes.as_slice(), self.levels))
+        size_at_node(root(self.nodes.as_slice(), self.levels))
     }
 
-    /// The free partition of the least base. Its size is one of the pool's.
+    /// The free partition of `2^bits` registers with the least base.
     pub fn find(&self, bits: u32) -> Option<Region>
         requires least { least_bits self.now ≤ bits }
         requires most { bits ≤ self.now.bits }

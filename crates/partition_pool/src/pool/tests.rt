@@ -15,13 +15,13 @@ const UPPER_HALF: Region = Region { base: 16, bits: 4 };
 
 // free registers, the largest free partition, places 0 to 2 of the tree, and where 8 and 16
 // registers are found, 99 for nowhere
-type Told = [u32; 7];
+type Left = [u32; 7];
 
 fn base_of(found: Option<Region>) -> u32 {
     found.map_or(99, |region| region.base)
 }
 
-fn told(pool: &Pool) -> Told
+fn left(pool: &Pool) -> Left
     requires bits { pool.now.bits ≡ 5 }
     requires split { pool.now.split ≡ 5 }
 {
@@ -38,7 +38,7 @@ fn told(pool: &Pool) -> Told
 }
 
 #[tactic(auto, using(crate::proofs::Restores::without_put))]
-fn told_beside(pool: &mut Pool, region: Region) -> Told
+fn left_beside(pool: &mut Pool, region: Region) -> Left
     requires bits { pool.old.bits ≡ 5 }
     requires split { pool.old.split ≡ 5 }
     requires inside { region.base + 2 ^ region.bits ≤ 32 }
@@ -48,13 +48,13 @@ fn told_beside(pool: &mut Pool, region: Region) -> Told
         return [99; 7];
     }
     let lease = pool.take_at(region);
-    let told = told(pool);
+    let found = left(pool);
     pool.give(lease);
-    told
+    found
 }
 
 #[tactic(auto, using(crate::proofs::Restores::without_put))]
-fn told_beside_both(pool: &mut Pool, one: Region, two: Region) -> Told
+fn left_beside_both(pool: &mut Pool, one: Region, two: Region) -> Left
     requires bits { pool.old.bits ≡ 5 }
     requires split { pool.old.split ≡ 5 }
     requires one_inside { one.base + 2 ^ one.bits ≤ 32 }
@@ -65,19 +65,19 @@ fn told_beside_both(pool: &mut Pool, one: Region, two: Region) -> Told
         return [99; 7];
     }
     let lease = pool.take_at(one);
-    let told = told_beside(pool, two);
+    let found = left_beside(pool, two);
     pool.give(lease);
-    told
+    found
 }
 
 #[test]
 fn what_taken_regions_leave(rt: HostRuntime) -> Result<(), Fail> {
     let mut pool = Pool::new(rt.alloc(), 0, 5, 5)?;
-    let nothing = told(&pool);
-    let half = told_beside(&mut pool, LOWER_HALF);
-    let apart = told_beside_both(&mut pool, EIGHT, THIRD_EIGHT);
-    let full = told_beside_both(&mut pool, LOWER_HALF, UPPER_HALF);
-    let again = told(&pool);
+    let nothing = left(&pool);
+    let half = left_beside(&mut pool, LOWER_HALF);
+    let apart = left_beside_both(&mut pool, EIGHT, THIRD_EIGHT);
+    let full = left_beside_both(&mut pool, LOWER_HALF, UPPER_HALF);
+    let again = left(&pool);
     pool.close();
     assert_eq!(rt; nothing, [32, 32, 6, 5, 5, 0, 0]);
     assert_eq!(rt; half, [16, 16, 5, 0, 5, 16, 16]);

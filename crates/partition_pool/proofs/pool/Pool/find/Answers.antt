@@ -1,6 +1,6 @@
 use Rattle.std.proofs.Common.{◌≡◌, ◌-◌, arith, sym, ◌∙◌, subst, true, ℕ, List}
 use Rattle.addr_translate.specs.Blocks.{Block}
-use Rattle.partition_pool.specs.Regions.{IsPartition, is_free, free_block}
+use Rattle.partition_pool.specs.Regions.{IsPartition, is_free}
 use Rattle.partition_pool.specs.Kept.{IsTree, blocks_from}
 use Rattle.partition_pool.proofs.Pools.{if_found, is_found}
 use Rattle.partition_pool.proofs.pool.Pool.find.Goals as goal

@@ -1,12 +1,11 @@
-use Rattle.std.proofs.Common.{arith, ap, sym, ◌∙◌, subst, ℕ, List}
+use Rattle.std.proofs.Common.{arith, sym, subst, ℕ, List}
 use Rattle.addr_translate.specs.Blocks.{Block}
-use Rattle.partition_pool.specs.Nodes.{largest_free}
 use Rattle.partition_pool.specs.Kept.{IsTree, blocks_from}
 use Rattle.partition_pool.proofs.Halves.{node_le}
 use Rattle.partition_pool.proofs.pool.Pool.largest.Goals as goal
 
-pub size_told-requires : goal.size_told-requires
-size_told-requires c =
+pub size_at_node-requires : goal.size_at_node-requires
+size_at_node-requires c =
     let taken : List Block = blocks_from c.self.inside.levels.least 0 c.self.inside.starts.items in
     let N : List ℕ → Type 0 =
     λ xs. IsTree c.self.inside.levels.array_bits c.self.inside.levels.least taken xs in

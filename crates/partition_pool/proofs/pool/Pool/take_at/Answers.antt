@@ -1,20 +1,19 @@
-use Rattle.std.proofs.Common.{rules, ◌≡◌, arith, ap, sym, ◌∙◌, ◌-◌, ◌+◌, ◌^◌, ◌/◌, ◌<◌, subst, ℕ, List, length, true, false, suc, add-one}
+use Rattle.std.proofs.Common.{rules, ◌≡◌, arith, ap, sym, ◌∙◌, ◌+◌, ◌^◌, ◌/◌, subst, ℕ, List, length, false, add-one}
 use Rattle.std.specs.Prelude.{slice_set}
 use Rattle.addr_translate.specs.Blocks.{Block}
 use Rattle.partition_pool.specs.Regions.{block_at}
 use Rattle.partition_pool.specs.Pools.{PoolState}
 use Rattle.partition_pool.specs.Kept.{IsKept, Marks, blocks_from}
-use Rattle.partition_pool.proofs.Pools.{spot, put_pool, put_blocks, room_for_one, whole_again}
+use Rattle.partition_pool.proofs.Pools.{size_spot, put_pool, put_blocks, room_for_one, whole_again}
 use Rattle.partition_pool.proofs.pool.Pool.take_at.Goals as goal
 
 pub index_mut-requires : goal.index_mut-requires
 index_mut-requires c =
     let inside = rw (← c.region.view_is, ← c.self.view_is) at c.requires.inside in
-    let size = rw (← c.region.view_is, ← c.self.view_is) at c.requires.least in
-    let is = c.self.invariant.least_is in
-    let s = spot c.self.inside.levels.array_bits c.self.inside.levels.least
-    (record { base = c.region.inside.base; bits = c.region.inside.bits })
-    c.region.invariant (omega arith) inside in
+    let large = rw (← c.region.view_is, ← c.self.view_is) at c.requires.least in
+    let s = size_spot c.self.inside.levels.array_bits c.self.inside.levels.least c.self.inside.split
+    (record { base = c.region.inside.base; bits = c.region.inside.bits }) c.region.invariant
+    c.self.invariant.least_is large inside in
     let n : c.self.inside.starts.len ≡ length c.self.inside.starts.items = search rules in
     let lt = s.first in
     omega (arith, lt, c.self.invariant.places)
@@ -22,31 +21,28 @@ index_mut-requires c =
 pub mark-requires-clause-most : goal.mark-requires-clause-most
 mark-requires-clause-most c =
     let inside = rw (← c.region.view_is, ← c.self.view_is) at c.requires.inside in
-    let size = rw (← c.region.view_is, ← c.self.view_is) at c.requires.least in
-    let is = c.self.invariant.least_is in
-    let s = spot c.self.inside.levels.array_bits c.self.inside.levels.least
-    (record { base = c.region.inside.base; bits = c.region.inside.bits })
-    c.region.invariant (omega arith) inside in
+    let large = rw (← c.region.view_is, ← c.self.view_is) at c.requires.least in
+    let s = size_spot c.self.inside.levels.array_bits c.self.inside.levels.least c.self.inside.split
+    (record { base = c.region.inside.base; bits = c.region.inside.bits }) c.region.invariant
+    c.self.invariant.least_is large inside in
     s.most
 
 pub mark-requires-clause-inside : goal.mark-requires-clause-inside
 mark-requires-clause-inside c =
     let inside = rw (← c.region.view_is, ← c.self.view_is) at c.requires.inside in
-    let size = rw (← c.region.view_is, ← c.self.view_is) at c.requires.least in
-    let is = c.self.invariant.least_is in
-    let s = spot c.self.inside.levels.array_bits c.self.inside.levels.least
-    (record { base = c.region.inside.base; bits = c.region.inside.bits })
-    c.region.invariant (omega arith) inside in
+    let large = rw (← c.region.view_is, ← c.self.view_is) at c.requires.least in
+    let s = size_spot c.self.inside.levels.array_bits c.self.inside.levels.least c.self.inside.split
+    (record { base = c.region.inside.base; bits = c.region.inside.bits }) c.region.invariant
+    c.self.invariant.least_is large inside in
     s.at
 
 pub invariant_of-self : goal.invariant_of-self
 invariant_of-self c =
     let inside = rw (← c.region.view_is, ← c.self.view_is) at c.requires.inside in
-    let size = rw (← c.region.view_is, ← c.self.view_is) at c.requires.least in
-    let is = c.self.invariant.least_is in
-    let s = spot c.self.inside.levels.array_bits c.self.inside.levels.least
-    (record { base = c.region.inside.base; bits = c.region.inside.bits })
-    c.region.invariant (omega arith) inside in
+    let large = rw (← c.region.view_is, ← c.self.view_is) at c.requires.least in
+    let s = size_spot c.self.inside.levels.array_bits c.self.inside.levels.least c.self.inside.split
+    (record { base = c.region.inside.base; bits = c.region.inside.bits }) c.region.invariant
+    c.self.invariant.least_is large inside in
     let free = rw (← c.region.view_is, ← c.self.view_is) at c.requires.free in
     let M : List ℕ → Type 0 = λ xs.
     Marks c.self.inside.levels.array_bits c.self.inside.levels.least
@@ -74,11 +70,10 @@ invariant_of-self c =
 pub returns-clause-taken : goal.returns-clause-taken
 returns-clause-taken c =
     let inside = rw (← c.region.view_is, ← c.self.view_is) at c.requires.inside in
-    let size = rw (← c.region.view_is, ← c.self.view_is) at c.requires.least in
-    let is = c.self.invariant.least_is in
-    let s = spot c.self.inside.levels.array_bits c.self.inside.levels.least
-    (record { base = c.region.inside.base; bits = c.region.inside.bits })
-    c.region.invariant (omega arith) inside in
+    let large = rw (← c.region.view_is, ← c.self.view_is) at c.requires.least in
+    let s = size_spot c.self.inside.levels.array_bits c.self.inside.levels.least c.self.inside.split
+    (record { base = c.region.inside.base; bits = c.region.inside.bits }) c.region.invariant
+    c.self.invariant.least_is large inside in
     let free = rw (← c.region.view_is, ← c.self.view_is) at c.requires.free in
     let made : List Block → PoolState =
     λ bs. record {
@@ -97,11 +92,10 @@ returns-clause-taken c =
 pub returns-clause-few : goal.returns-clause-few
 returns-clause-few c =
     let inside = rw (← c.region.view_is, ← c.self.view_is) at c.requires.inside in
-    let size = rw (← c.region.view_is, ← c.self.view_is) at c.requires.least in
-    let is = c.self.invariant.least_is in
-    let s = spot c.self.inside.levels.array_bits c.self.inside.levels.least
-    (record { base = c.region.inside.base; bits = c.region.inside.bits })
-    c.region.invariant (omega arith) inside in
+    let large = rw (← c.region.view_is, ← c.self.view_is) at c.requires.least in
+    let s = size_spot c.self.inside.levels.array_bits c.self.inside.levels.least c.self.inside.split
+    (record { base = c.region.inside.base; bits = c.region.inside.bits }) c.region.invariant
+    c.self.invariant.least_is large inside in
     let free = rw (← c.region.view_is, ← c.self.view_is) at c.requires.free in
     rw (← c.self.view_is)
     (room_for_one c.self.inside.levels.array_bits c.self.inside.levels.least c.self.inside.split

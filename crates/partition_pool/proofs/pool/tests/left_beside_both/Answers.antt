@@ -4,13 +4,13 @@ use Rattle.addr_translate.specs.Blocks.{Block}
 use Rattle.partition_pool.specs.Regions.{put_by_base}
 use Rattle.partition_pool.specs.Pools.{PoolState, Holding}
 use Rattle.partition_pool.proofs.Orders.{contains_put}
-use Rattle.partition_pool.proofs.pool.tests.told_beside_both.Goals as goal
+use Rattle.partition_pool.proofs.pool.tests.left_beside_both.Goals as goal
 
 pub give-requires-clause-taken : goal.give-requires-clause-taken
 give-requires-clause-taken c =
     let region = ap (λ (h : Holding). h.region) c.take_at-lease.ensures.lease in
-    let taken : c.told_beside-told.new.pool.taken ≡ put_by_base c.args.one c.args.pool.now.taken =
-    ap (λ (p : PoolState). p.taken) (c.told_beside-told.ensures ∙ c.take_at-lease.ensures.taken) in
+    let taken : c.left_beside-found.new.pool.taken ≡ put_by_base c.args.one c.args.pool.now.taken =
+    ap (λ (p : PoolState). p.taken) (c.left_beside-found.ensures ∙ c.take_at-lease.ensures.taken) in
     let P : List Block → Type 0 = λ xs. Contains xs c.args.one in
-    let Q : Block → Type 0 = λ b. Contains c.told_beside-told.new.pool.taken b in
+    let Q : Block → Type 0 = λ b. Contains c.left_beside-found.new.pool.taken b in
     subst Q (sym region) (subst P (sym taken) (contains_put c.args.one c.args.pool.now.taken))

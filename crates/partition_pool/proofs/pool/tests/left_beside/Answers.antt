@@ -1,10 +1,10 @@
-use Rattle.std.proofs.Common.{◌≡◌, ap, sym, ◌∙◌, subst, List}
+use Rattle.std.proofs.Common.{◌≡◌, ap, sym, subst, List}
 use Rattle.std.specs.Prelude.{Contains}
 use Rattle.addr_translate.specs.Blocks.{Block}
 use Rattle.partition_pool.specs.Regions.{put_by_base}
 use Rattle.partition_pool.specs.Pools.{PoolState, Holding}
 use Rattle.partition_pool.proofs.Orders.{contains_put}
-use Rattle.partition_pool.proofs.pool.tests.told_beside.Goals as goal
+use Rattle.partition_pool.proofs.pool.tests.left_beside.Goals as goal
 
 pub give-requires-clause-taken : goal.give-requires-clause-taken
 give-requires-clause-taken c =
