@@ -10,7 +10,7 @@ use Rattle.addr_translate.specs.Blocks.{index_of}
 use Rattle.hash_units.specs.Toeplitz.{row_hash_of}
 use Rattle.reg_file.specs.Registers.{Contents}
 use Rattle.sketch_defs.specs.declared.kinds.Kind.{Kind}
-use Rattle.sketch_defs.specs.declared.kinds.Kind.TheVariants.{Mrac, Hll}
+use Rattle.sketch_defs.specs.declared.kinds.Kind.TheVariants.{Cms, SumaxSum, SumaxMax, Bloom, Mrac, Hll, FlagOr, FlagAnd}
 use Rattle.sketch_defs.specs.Answers.{cells_from, cells_found}
 use Rattle.readout.specs.declared.views.Side.TheVariants.{Live}
 use Rattle.readout.specs.PlacedTasks.{PlacedTask, no_place, place_at, live_bits, register_at, row_contents, rows_contents}
@@ -20,7 +20,7 @@ use Rattle.task_filters.specs.Filters.{Pattern}
 use Rattle.key_mask.specs.Bytes.{and_bytes}
 use Rattle.key_mask.specs.Masks.{mask_bytes_of}
 use Rattle.hash_units.specs.Toeplitz.{hash_of}
-use Rattle.readout.specs.Lines.{query_line}
+use Rattle.readout.specs.Lines.{query_line, answer_lines}
 use Rattle.readout.specs.Judging.{answers_keys, line_of_query}
 use Rattle.outside.proofs.SentLemmas.{none_in_part}
 use Rattle.outside.proofs.ToldLemmas.{stays_same}
@@ -92,17 +92,17 @@ query_of hash_key at placed told = line_of_query hash_key (live_bits placed) at 
 
 line_as : (told : Contents) (hash_key : List ℕ) (at : Pattern) (placed : PlacedTask) (h : ℕ) (found line : List ℕ)
     → h ≡ hash_of hash_key (and_bytes at.value (mask_bytes_of placed.task.key))
-    → line ≡ query_line placed.task.name (answer_of placed.task.kind found h)
+    → line ≡ answer_lines placed.task.name (answer_of placed.task.kind found h)
     → found ≡ cells_found h (live_bits placed) (rows_contents told Live placed)
     → line ≡ query_of hash_key at placed told
 line_as told hash_key at placed h found line hashed is all =
     let hash = hash_as hash_key placed at.value h hashed in
-    is ∙ (ap (λ f. query_line placed.task.name (answer_of placed.task.kind f h)) all
-    ∙ ap (λ k. query_line placed.task.name (answer_of placed.task.kind (cells_found k (live_bits placed) (rows_contents told Live placed)) k)) hash)
+    is ∙ (ap (λ f. answer_lines placed.task.name (answer_of placed.task.kind f h)) all
+    ∙ ap (λ k. answer_lines placed.task.name (answer_of placed.task.kind (cells_found k (live_bits placed) (rows_contents told Live placed)) k)) hash)
 
 pub query_sent : (cells : Option Contents) (a b : Option (List ℕ)) (hash_key : List ℕ) (at : Pattern) (placed : PlacedTask) (h : ℕ) (found line : List ℕ)
     → h ≡ hash_of hash_key (and_bytes at.value (mask_bytes_of placed.task.key))
-    → line ≡ query_line placed.task.name (answer_of placed.task.kind found h)
+    → line ≡ answer_lines placed.task.name (answer_of placed.task.kind found h)
     → IfSome cells (λ told. found ≡ cells_found h (live_bits placed) (rows_contents told Live placed))
     → Grows a line b → IfSome cells (λ told. Grows a (query_of hash_key at placed told) b)
 query_sent cells a b hash_key at placed h found line hashed is all grew =
@@ -112,7 +112,7 @@ query_sent cells a b hash_key at placed h found line hashed is all grew =
 
 pub query_part : (cells : Option Contents) (a b : Option (List ℕ)) (hash_key : List ℕ) (at : Pattern) (placed : PlacedTask) (h : ℕ) (found line : List ℕ)
     → h ≡ hash_of hash_key (and_bytes at.value (mask_bytes_of placed.task.key))
-    → line ≡ query_line placed.task.name (answer_of placed.task.kind found h)
+    → line ≡ answer_lines placed.task.name (answer_of placed.task.kind found h)
     → IfSome cells (λ told. found ≡ cells_found h (live_bits placed) (rows_contents told Live placed))
     → CameInPart a line b → IfSome cells (λ told. CameInPart a (query_of hash_key at placed told) b)
 query_part cells a b hash_key at placed h found line hashed is all part =
@@ -120,15 +120,29 @@ query_part cells a b hash_key at placed h found line hashed is all part =
     (λ told p. subst (λ t. CameInPart a t b) (line_as told hash_key at placed h found line hashed is p) part)
     all
 
-some_query : (hash_key : List ℕ) (at : Pattern) (placed : PlacedTask) (told : Contents) → 0 < length (query_of hash_key at placed told)
-unfolding query_line
-some_query hash_key at placed told = omega arith
+-- a kind that answers keys has a line
+some_line : (kind : Kind) (name cells : List ℕ) (h : ℕ) → answers_keys kind ≡ true → 0 < length (answer_lines name (answer_of kind cells h))
+unfolding query_line answer_of
+some_line Cms name cells h keys = omega arith
+some_line SumaxSum name cells h keys = omega arith
+some_line SumaxMax name cells h keys = omega arith
+some_line Bloom name cells h keys = omega arith
+some_line Mrac name cells h keys = absurd (false≢true keys)
+some_line Hll name cells h keys = absurd (false≢true keys)
+some_line FlagOr name cells h keys = omega arith
+some_line FlagAnd name cells h keys = omega arith
+
+some_query : (hash_key : List ℕ) (at : Pattern) (placed : PlacedTask) (told : Contents) → answers_keys placed.task.kind ≡ true
+    → 0 < length (query_of hash_key at placed told)
+some_query hash_key at placed told keys =
+    let h = key_hash hash_key placed.task at.value in
+    some_line placed.task.kind placed.task.name (cells_found h (live_bits placed) (rows_contents told Live placed)) h keys
 
 pub query_unsent : (cells : Option Contents) (a : Option (List ℕ)) (hash_key : List ℕ) (at : Pattern) (placed : PlacedTask)
-    → IfSome cells (λ told. CameInPart a (query_of hash_key at placed told) a)
-query_unsent cells a hash_key at placed =
+    → answers_keys placed.task.kind ≡ true → IfSome cells (λ told. CameInPart a (query_of hash_key at placed told) a)
+query_unsent cells a hash_key at placed keys =
     told_all cells (λ told. CameInPart a (query_of hash_key at placed told) a)
-    (λ told. none_in_part a a (query_of hash_key at placed told) (some_query hash_key at placed told) (stays_same a))
+    (λ told. none_in_part a a (query_of hash_key at placed told) (some_query hash_key at placed told keys) (stays_same a))
 
 -- ---- kinds
 

@@ -5,7 +5,8 @@ use Rattle.std.proofs.lemmas.List.Elements.{All-head, All-tail}
 use Rattle.std.proofs.lemmas.Bool.{false≢true}
 use Rattle.std.proofs.Math.Pow.{pow_mono}
 use Rattle.addr_translate.specs.Blocks.{Block}
-use Rattle.addr_translate.specs.Geometry.{Geometry, Group, bits_of, equal_geometry, groups_ended, group_number, no_group}
+use Rattle.addr_translate.specs.Geometry.{Geometry, bits_of, equal_geometry, greatest_bits, groups_ended}
+use Rattle.addr_translate.proofs.GeometryLemmas.{bits_within}
 use Rattle.reg_file.specs.Registers.{Dims, InFile}
 use Rattle.group_keys.specs.declared.uses.KeyUse.TheVariants.{Single}
 use Rattle.sketch_defs.specs.declared.kinds.Kind.{Kind}
@@ -14,20 +15,8 @@ use Rattle.sketch_defs.specs.Tasks.{Sketch}
 use Rattle.readout.specs.declared.views.Placed.{Placed}
 use Rattle.readout.specs.declared.views.Side.{Side}
 use Rattle.readout.specs.declared.views.Side.TheVariants.{Live, Frozen}
-use Rattle.readout.specs.PlacedTasks.{PlacedTask, placed_task_at, place_at, block_of, greatest_bits, is_named, live_bits, task_named, HasSide, IsFit, IsPlaced, IsPlacedTask, IsShaped, LiesIn}
+use Rattle.readout.specs.PlacedTasks.{PlacedTask, placed_task_at, place_at, block_of, is_named, live_bits, task_named, HasSide, IsFit, IsPlaced, IsPlacedTask, IsShaped, LiesIn}
 use Rattle.readout.proofs.PlacedTaskLemmas.{row_placed}
-
-start_within : (start : ℕ) (xs : List ℕ) → start ≤ fold max start xs
-start_within start [] = omega arith
-start_within start (x ∷ xs) = omega (arith, start_within (max start x) xs)
-
-group_within : (groups : List Group) (start n : ℕ) → (get_or groups n no_group).bits ≤ fold max start (map (λ g. g.bits) groups)
-group_within [] start n = omega arith
-group_within (g ∷ gs) start zero = omega (arith, start_within (max start g.bits) (map (λ g. g.bits) gs))
-group_within (g ∷ gs) start (suc n) = group_within gs (max start g.bits) n
-
-bits_within : (geometry : Geometry) (array : ℕ) → bits_of geometry array ≤ greatest_bits geometry
-bits_within geometry array = group_within geometry.groups 0 (group_number geometry array)
 
 frozen_inside : (geometry : Geometry) (array : ℕ) (frozen : Option Block) (region : Block) (index : ℕ)
     → is_some (option_map (λ (block : Block). block.bits) frozen) ≡ true → IfSome frozen (LiesIn geometry array)
@@ -73,7 +62,7 @@ register_small geometry tasks at row side index few fit below within has small =
 -- ---- two tasks that fit
 
 abbrev four_arrays : Geometry
-four_arrays = equal_geometry 2 (record { cmus = 2; units = 2; bits = 10 })
+four_arrays = equal_geometry 2 (record { cmus = 2; units = 2; bits = 10 }) 5
 
 -- a row of 4 cells, and its frozen row of 2
 abbrev row_at : ℕ → ℕ → ℕ → Placed

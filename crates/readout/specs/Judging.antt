@@ -15,7 +15,7 @@ use Rattle.readout.specs.declared.faults.ReadFault.{ReadFault}
 use Rattle.readout.specs.declared.faults.ReadFault.TheVariants.{Unknown, NoFrozen, NoAnswer, BadKey, Device, Write}
 use Rattle.readout.specs.declared.views.Side.{Side}
 use Rattle.readout.specs.declared.views.Side.TheVariants.{Live, Frozen}
-use Rattle.readout.specs.Lines.{head_line, cells_lines, query_line, dist_lines, card_line}
+use Rattle.readout.specs.Lines.{head_line, cells_lines, answer_lines, dist_lines, card_line}
 use Rattle.readout.specs.PlacedTasks.{PlacedTask, frozen_bits}
 
 -- the kinds that answer a key
@@ -88,7 +88,7 @@ lines_of_cells side size task rows = cells_lines side task.name size (start_of t
 abbrev pub line_of_query : List ℕ → ℕ → Pattern → Sketch → List (List ℕ) → List ℕ
 line_of_query hash_key bits at task rows =
     let h = key_hash hash_key task at.value in
-    query_line task.name (answer_of task.kind (cells_found h bits rows) h)
+    answer_lines task.name (answer_of task.kind (cells_found h bits rows) h)
 
 abbrev pub lines_of_dist : Sketch → List (List ℕ) → List ℕ
 lines_of_dist task rows = dist_lines task.name (sizes_of (row_of rows 0))

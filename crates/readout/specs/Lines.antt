@@ -1,5 +1,5 @@
 -- The lines of read-outs.
-use Rattle.std.specs.Prelude.{ℕ, ◌+◌, ◌==◌, if◌then◌else◌, List, [], ◌∷◌, ◌++◌, length, codes}
+use Rattle.std.specs.Prelude.{ℕ, ◌+◌, ◌==◌, if◌then◌else◌, List, [], ◌∷◌, ◌++◌, length, codes, Option, None, Some}
 use Rattle.std.specs.Fmt.{decimal}
 use Rattle.std.specs.List.{flat_map, enumerate_from}
 use Rattle.sketch_defs.specs.declared.answers.Reply.{Reply}
@@ -42,6 +42,11 @@ reply_text No = codes "no"
 
 unfoldable pub query_line : List ℕ → Reply → List ℕ
 query_line name reply = codes "query " ++ (name ++ (codes " " ++ (reply_text reply ++ codes "\n")))
+
+-- a kind that answers no key has no line
+abbrev pub answer_lines : List ℕ → Option Reply → List ℕ
+answer_lines name None = []
+answer_lines name (Some reply) = query_line name reply
 
 unfoldable pub size_line : Size → List ℕ
 size_line size = codes "size " ++ (decimal size.value ++ (codes " cells " ++ (decimal size.cells ++ codes "\n")))

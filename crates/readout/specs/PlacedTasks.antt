@@ -3,7 +3,7 @@ use Rattle.std.specs.Prelude.{◌≡◌, ℕ, ◌+◌, ◌^◌, ◌<◌, ◌≤�
 use Rattle.std.specs.List.{All, find, fold, range_with_len}
 use Rattle.std.specs.Str.{bytes_eq}
 use Rattle.addr_translate.specs.Blocks.{Block}
-use Rattle.addr_translate.specs.Geometry.{Geometry, array_count, bits_of}
+use Rattle.addr_translate.specs.Geometry.{Geometry, array_count, bits_of, greatest_bits}
 use Rattle.group_keys.specs.declared.uses.KeyUse.TheVariants.{Single}
 use Rattle.key_mask.specs.declared.fields.TheConstants.{KEY_BYTES}
 use Rattle.key_mask.specs.Masks.{no_lengths}
@@ -89,10 +89,6 @@ pub record IsPlacedTask (geometry : Geometry) (placed : PlacedTask) : Type 0 whe
 
 abbrev pub IsFit : Geometry → List PlacedTask → Type 0
 IsFit geometry tasks = All (IsPlacedTask geometry) tasks
-
--- the bits of the largest array
-abbrev pub greatest_bits : Geometry → ℕ
-greatest_bits geometry = fold max 0 (map (λ g. g.bits) geometry.groups)
 
 -- the register file has the arrays of the geometry, each with room for the largest
 pub record IsShaped (geometry : Geometry) (dims : Dims) : Type 0 where

@@ -9,7 +9,7 @@ ghost use Rattle.readout.specs.PlacedTasks.{live_bits, IsFit, IsShaped};
 
 use crate::places::part_of;
 use crate::{Placed, ReadFault, Readout, Side, TaskView};
-use addr_translate::{Region, Shape};
+use addr_translate::{GroupShape, Region, Shape};
 use fm_io::MemSink;
 use group_keys::KeyUse;
 use hash_units::standard;
@@ -22,12 +22,16 @@ use std::test::Fail;
 use task_filters::Filter;
 
 /// Four arrays of 1,024 registers.
-const SHAPE: Shape = Shape {
-    groups: 2,
-    cmus: 2,
-    units: 2,
-    bits: 10,
-};
+fn four_arrays() -> Shape
+    ensures { result ≡ equal_geometry 2 (record { cmus = 2; units = 2; bits = 10 }) 5 }
+{
+    let group = GroupShape {
+        cmus: 2,
+        units: 2,
+        bits: 10,
+    };
+    Shape::equal(2, group, 5)
+}
 
 /// A task of two rows, and one of one row.
 #[derive(Clone, Copy, Debug)]
@@ -40,7 +44,7 @@ struct TwoTasks {
 }
 
 impl TaskView for TwoTasks {
-    ghost geometry = { λ view. equal_geometry 2 (record { cmus = 2; units = 2; bits = 10 }) };
+    ghost geometry = { λ view. equal_geometry 2 (record { cmus = 2; units = 2; bits = 10 }) 5 };
 
     ghost tasks = { λ view. (record { task = view.hot; places = view.first ∷ view.second ∷ [] })
         ∷ (record { task = view.other; places = view.third ∷ [] }) ∷ [] };
@@ -54,7 +58,7 @@ impl TaskView for TwoTasks {
     ghost live_counts = { λ view array. 1 };
 
     fn shape(&self) -> Shape {
-        SHAPE
+        four_arrays()
     }
 
     fn count(&self) -> usize {
@@ -140,7 +144,7 @@ fn view_of(hot: Task, other: Task, bits: u32) -> TwoTasks
     requires other_size { other.size ≡ 2 ^ bits }
     requires few { bits ≤ 9 }
     requires ranks { other.kind ≡ Hll → 4 ≤ bits }
-    ensures fit { IsFit (equal_geometry 2 (record { cmus = 2; units = 2; bits = 10 })) (⟦<TwoTasks as TaskView>⟧.tasks result) }
+    ensures fit { IsFit (equal_geometry 2 (record { cmus = 2; units = 2; bits = 10 }) 5) (⟦<TwoTasks as TaskView>⟧.tasks result) }
     ensures room { All (λ placed. live_bits placed ≤ 9) (⟦<TwoTasks as TaskView>⟧.tasks result) }
 {
     TwoTasks {
@@ -167,7 +171,7 @@ fn task_of(name: &[u8], kind: Kind, rows: u32, attr: Attr, size: u32) -> Option<
 /// Registers of the view's shape. The first call shapes them, six put values into the cells of both
 /// tasks and into the frozen rows, and each further one reads.
 fn registers(alloc: Global, failing: Vec<u64>) -> Result<TraceFile, Fail>
-    ensures { IfOk result (λ regs. IsShaped (equal_geometry 2 (record { cmus = 2; units = 2; bits = 10 })) (⟦<TraceFile as RegFile>⟧.dims regs)) }
+    ensures { IfOk result (λ regs. IsShaped (equal_geometry 2 (record { cmus = 2; units = 2; bits = 10 }) 5) (⟦<TraceFile as RegFile>⟧.dims regs)) }
 {
     let mut regs = TraceFile::new(alloc, 0, failing)?;
     regs.shape(alloc, 4, 10)?;
@@ -182,7 +186,7 @@ fn registers(alloc: Global, failing: Vec<u64>) -> Result<TraceFile, Fail>
 
 /// The view with a second task of 512 cells, each of which counts.
 fn sizes_view() -> Option<TwoTasks>
-    ensures fit { IfSome result (λ view. IsFit (equal_geometry 2 (record { cmus = 2; units = 2; bits = 10 })) (⟦<TwoTasks as TaskView>⟧.tasks view)) }
+    ensures fit { IfSome result (λ view. IsFit (equal_geometry 2 (record { cmus = 2; units = 2; bits = 10 }) 5) (⟦<TwoTasks as TaskView>⟧.tasks view)) }
     ensures room { IfSome result (λ view. All (λ placed. live_bits placed ≤ 9) (⟦<TwoTasks as TaskView>⟧.tasks view)) }
 {
     let hot = task_of(b"hot", Kind::Cms, 2, Attr::Packets, 4)?;
@@ -242,8 +246,8 @@ fn answer(
     name: &Name,
     sink: &mut MemSink,
 ) -> Result<(), ReadFault>
-    requires fit { IsFit (equal_geometry 2 (record { cmus = 2; units = 2; bits = 10 })) (⟦<TwoTasks as TaskView>⟧.tasks view.now) }
-    requires shaped { IsShaped (equal_geometry 2 (record { cmus = 2; units = 2; bits = 10 })) (⟦<TraceFile as RegFile>⟧.dims regs.old) }
+    requires fit { IsFit (equal_geometry 2 (record { cmus = 2; units = 2; bits = 10 }) 5) (⟦<TwoTasks as TaskView>⟧.tasks view.now) }
+    requires shaped { IsShaped (equal_geometry 2 (record { cmus = 2; units = 2; bits = 10 }) 5) (⟦<TraceFile as RegFile>⟧.dims regs.old) }
     requires room { All (λ placed. live_bits placed ≤ readout.old) (⟦<TwoTasks as TaskView>⟧.tasks view.now) }
     ensures shaped { ⟦<TraceFile as RegFile>⟧.dims regs.new ≡ ⟦<TraceFile as RegFile>⟧.dims regs.old }
     ensures room { readout.new ≡ readout.old }
@@ -353,7 +357,7 @@ fn blocks_stop_within(rt: HostRuntime) -> Result<(), Fail> {
 #[test]
 fn view_of_four_arrays(rt: HostRuntime) -> Result<(), Fail> {
     let view = sizes_view().ok_or("a view")?;
-    assert_eq!(rt; view.shape(), SHAPE);
+    assert_eq!(rt; view.shape(), four_arrays());
     assert_eq!(rt; view.count(), 2);
     assert_eq!(rt; view.unit(1, 1), None);
     assert_eq!(rt; view.free_count(3), 7);
