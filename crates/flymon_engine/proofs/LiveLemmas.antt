@@ -9,7 +9,6 @@ use Rattle.std.proofs.lemmas.List.{map-append}
 use Rattle.outside.specs.Told.{Told, Grows}
 use Rattle.outside.proofs.ToldLemmas.{told_weaker, grows_then}
 use Rattle.addr_translate.specs.Blocks.{index_of}
-use Rattle.addr_translate.specs.Geometry.{groups_ended}
 use Rattle.hash_units.specs.Toeplitz.{hash_of, row_hash_of}
 use Rattle.key_mask.specs.Bytes.{and_bytes}
 use Rattle.key_mask.specs.Masks.{mask_bytes_of}
@@ -72,8 +71,7 @@ not_chained _ e is = cc
 -- ---- where the operations are made
 
 pub bits_shaped : (dims : Dims) → IsShaped default_geometry dims → dims.bits ≡ 10
-unfolding groups_ended
-bits_shaped dims shaped = sym (shaped.bits 0 (omega arith))
+bits_shaped dims shaped = shaped.bits
 
 pub in_file : (dims : Dims) (row place bits : ℕ) → IsShaped default_geometry dims → row < 4 → bits ≤ 10 → place < 2 ^ bits → InFile dims row place
 in_file dims row place bits shaped few short below =

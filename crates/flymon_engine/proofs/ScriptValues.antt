@@ -13,7 +13,7 @@ use Rattle.task_filters.specs.Filters.{Pattern}
 use Rattle.task_filters.specs.Terms.{terms_in, with_term, vector_of}
 use Rattle.task_lang.specs.declared.commands.Command.TheVariants as commands
 use Rattle.task_lang.specs.declared.commands.LineFault.TheVariants as faults
-use Rattle.task_lang.specs.Words.{verb_named, kind_named, attr_named, rows_in, attr_in, behind_label}
+use Rattle.task_lang.specs.Words.{verb_named, kind_named, attr_named, rows_in, attr_in, after_label}
 use Rattle.task_lang.specs.Script.{add_in, query_in, named_in, alone_in, command_in, plain_line_in, script_in}
 use Rattle.flymon_engine.specs.declared.stop.Stop.TheVariants as stops
 use Rattle.flymon_engine.specs.Script.{Job, Faulty, Foreign, Built, job_of, size_bits, verdict_in}
@@ -34,19 +34,19 @@ built : verdict_in (codes "add hot cms 1 key=src_ip attr=packets filter=all memo
       commands = commands.Run ∷ commands.Read (codes "hot")
           ∷ commands.Query (codes "hot") (record { value = 10 ∷ 0 ∷ 0 ∷ 1 ∷ replicate 12 0; mask = 32 ∷ replicate 6 0 }) ∷ [];
     })
-unfolding verdict_in job_of size_bits script_in plain_line_in command_in verb_named add_in named_in query_in alone_in kind_named rows_in attr_in attr_named behind_label number_in key_in with_item field_named terms_in with_term vector_of address_in mask_bytes_of
+unfolding verdict_in job_of size_bits script_in plain_line_in command_in verb_named add_in named_in query_in alone_in kind_named rows_in attr_in attr_named after_label number_in key_in with_item field_named terms_in with_term vector_of address_in mask_bytes_of
 built = refl
 
 sums_of_least : verdict_in (codes "add hot sumax_sum 3 key=src_ip attr=packets filter=all memory=32\n") ≡ Foreign
-unfolding verdict_in job_of size_bits script_in plain_line_in command_in verb_named add_in kind_named rows_in attr_in attr_named behind_label number_in key_in with_item field_named terms_in
+unfolding verdict_in job_of size_bits script_in plain_line_in command_in verb_named add_in kind_named rows_in attr_in attr_named after_label number_in key_in with_item field_named terms_in
 sums_of_least = refl
 
 sixteen : verdict_in (codes "add hot cms 1 key=src_ip attr=packets filter=all memory=16\n") ≡ Foreign
-unfolding verdict_in job_of size_bits script_in plain_line_in command_in verb_named add_in kind_named rows_in attr_in attr_named behind_label number_in key_in with_item field_named terms_in
+unfolding verdict_in job_of size_bits script_in plain_line_in command_in verb_named add_in kind_named rows_in attr_in attr_named after_label number_in key_in with_item field_named terms_in
 sixteen = refl
 
 stated : verdict_in (codes "add hot cms 1 key=src_ip attr=packets filter=all memory=32\nstat\n") ≡ Foreign
-unfolding verdict_in job_of size_bits script_in plain_line_in command_in verb_named add_in alone_in kind_named rows_in attr_in attr_named behind_label number_in key_in with_item field_named terms_in
+unfolding verdict_in job_of size_bits script_in plain_line_in command_in verb_named add_in alone_in kind_named rows_in attr_in attr_named after_label number_in key_in with_item field_named terms_in
 stated = refl
 
 -- a fault counts before what is not built

@@ -1,11 +1,12 @@
 -- The live task as the one task of a view.
-use Rattle.std.proofs.Common.{◌≡◌, ℕ, suc, ap₂, ◌+◌, ◌^◌, ◌<◌, ◌≤◌, Bool, true, false, List, [], ◌∷◌, length, Option, None, Some, IfSome, position, refl, sym, ap, ◌∙◌, subst, arith, IfOk, Result, Ok, Err, option_map}
+use Rattle.std.proofs.Common.{◌≡◌, ℕ, ap₂, ◌+◌, ◌^◌, ◌<◌, ◌≤◌, Bool, true, false, List, [], ◌∷◌, length, Option, None, Some, IfSome, position, refl, sym, ap, ◌∙◌, subst, arith, IfOk, Result, Ok, Err, option_map}
 use Rattle.std.specs.Prelude.{is_some, slice_index_or}
 use Rattle.std.specs.Str.{bytes_eq}
 use Rattle.std.proofs.Math.Pow.{pow_mono}
 use Rattle.std.proofs.lemmas.List.FromFn.{get_or-map-range_with_len, length-map-range_with_len}
 use Rattle.addr_translate.specs.Blocks.{Block}
-use Rattle.addr_translate.specs.Geometry.{bits_of, array_count, groups_ended}
+use Rattle.addr_translate.specs.Geometry.{bits_of, array_count, greatest_bits}
+use Rattle.addr_translate.proofs.GeometryLemmas.{equal_bits}
 use Rattle.reg_file.specs.Registers.{Contents, Dims}
 use Rattle.reg_file.specs.declared.traits.DeviceFault.{DeviceFault}
 use Rattle.sketch_defs.specs.Tasks.{Sketch}
@@ -109,25 +110,12 @@ registers_in job side at row index (Ok value) (Some told) inside below has is = 
 -- ---- the view is fit
 
 geometry_bits : (array : ℕ) → array < 9 → bits_of default_geometry array ≡ 10
-unfolding groups_ended
-geometry_bits 0 few = refl
-geometry_bits 1 few = refl
-geometry_bits 2 few = refl
-geometry_bits 3 few = refl
-geometry_bits 4 few = refl
-geometry_bits 5 few = refl
-geometry_bits 6 few = refl
-geometry_bits 7 few = refl
-geometry_bits 8 few = refl
-geometry_bits (suc (suc (suc (suc (suc (suc (suc (suc (suc array))))))))) few = absurd (omega (arith, few))
+geometry_bits array few = equal_bits 3 (record { cmus = 3; units = 3; bits = 10 }) 5 array few
 
 -- a register file of this shape has the arrays of the geometry
-pub shaped_geometry : (dims : Dims) (arrays : ℕ) → dims ≡ record { arrays = arrays; bits = 10 } → arrays ≡ array_count default_geometry → IsShaped default_geometry dims
-shaped_geometry dims arrays is count =
-    rw is (record {
-      arrays = count;
-      bits = λ array inside. geometry_bits array inside;
-    })
+pub shaped_geometry : (dims : Dims) (arrays bits : ℕ) → dims ≡ record { arrays = arrays; bits = bits } → arrays ≡ array_count default_geometry
+    → bits ≡ greatest_bits default_geometry → IsShaped default_geometry dims
+shaped_geometry dims arrays bits is count greatest = rw is (record { arrays = count; bits = greatest })
 
 is_placed : (job : Job) (row : ℕ) → job.task.rows ≤ 4 → job.bits ≤ 10 → row < job.task.rows → IsPlaced default_geometry job.bits None (placed_at job row)
 is_placed job row few most inside =

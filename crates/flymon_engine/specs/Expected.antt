@@ -5,7 +5,7 @@ use Rattle.std.specs.Str.{bytes_eq}
 use Rattle.fm_io.specs.Slots.{Slots}
 use Rattle.fm_io.specs.Names.{Directory, told_text}
 use Rattle.pkt_headers.specs.declared.packets.Packet.{Packet}
-use Rattle.task_lang.specs.declared.script.TheConstants.{SCRIPT_LIMIT}
+use Rattle.task_lang.specs.Script.{script_limit}
 use Rattle.task_lang.specs.declared.commands.ScriptFault.{ScriptFault}
 use Rattle.flymon_engine.specs.declared.status.Status.{Status}
 use Rattle.flymon_engine.specs.declared.status.Status.TheVariants as statuses
@@ -65,7 +65,7 @@ pub record FailsInPlace (profile script : List ℕ) (directory : Directory) (slo
   pub built : bytes_eq profile (codes "-") ≡ true
   pub some : 1 ≤ last
   pub most : last ≤ 2
-  pub within : last ≡ 1 → IsWithin SCRIPT_LIMIT slots.script
+  pub within : last ≡ 1 → IsWithin script_limit slots.script
   pub formed : last ≡ 2 → IfSome (told_text directory slots.script script) (λ text. IsBuilt (verdict_in text))
 
 abbrev pub IsFaultPlace : Form → Directory → Slots → ℕ → Type 0

@@ -7,6 +7,7 @@ ghost use Rattle.flymon_engine.specs.Words.{form_of, texts_of};
 ghost use Rattle.flymon_engine.specs.Script.{verdict_in};
 ghost use Rattle.flymon_engine.specs.Frames.{passage_in};
 ghost use Rattle.flymon_engine.specs.Opening.{HasInputCause, IsReadStop, IsJudgeStop, IsCaptureStop, IsFileStop, StopsWithin, KeepsStrays, stop_in};
+ghost use Rattle.task_lang.specs.Script.{script_limit};
 ghost use Rattle.flymon_engine.specs.Expected.{expected_for, expected_after, word_for, JudgesAs, ReadsAs, OpensAs, StopsFormed, StopsInPlace};
 ghost use Rattle.flymon_engine.specs.Views.{script_view, passage_view, expected_view};
 
@@ -52,7 +53,7 @@ fn open_files<F: Files>(alloc: Global, names: Names<'_>, files: &mut F) -> Resul
     ensures expected { OpensAs expected_view
         (option_and_then (λ text. expected_after (told_text (F.directory files.new) (F.slots files.new).capture names.entry.capture.now) (verdict_in text))
         (told_text (F.directory files.new) (F.slots files.new).script names.entry.script.now)) result }
-    ensures within { F.last files.new ≡ 1 → IfErr result (StopsWithin SCRIPT_LIMIT (F.slots files.new).script) }
+    ensures within { F.last files.new ≡ 1 → IfErr result (StopsWithin script_limit (F.slots files.new).script) }
     ensures formed { F.last files.new ≡ 2 → IfErr result (StopsFormed (told_text (F.directory files.new) (F.slots files.new).script names.entry.script.now)) }
     ensures strays { KeepsStrays (cond (F.last files.new == 1) names.entry.script.now names.entry.capture.now)
         (F.directory files.new).names (F.strays files.old) (F.strays files.new) (stop_in result) }
@@ -67,7 +68,7 @@ fn session_from<F: Files>(alloc: Global, files: &mut F, name: &str) -> Result<Se
     ensures later { F.faults files.old ≤ F.faults files.new }
     ensures cause { IfErr result (HasInputCause (F.faults files.old) (F.faults files.new) (F.last files.new)) }
     ensures stop { IfErr result (IsJudgeStop 1) }
-    ensures within { IfErr result (StopsWithin SCRIPT_LIMIT (F.slots files.new).script) }
+    ensures within { IfErr result (StopsWithin script_limit (F.slots files.new).script) }
     ensures directory { DirectoryStays (F.directory files.old) (F.directory files.new) }
     ensures strays { KeepsStrays name.now (F.directory files.new).names (F.strays files.old) (F.strays files.new) (stop_in result) }
     ensures text { IfSome (told_text (F.directory files.new) (F.slots files.new).script name.now) (λ bytes. JudgesAs script_view (verdict_in bytes) result) }

@@ -29,7 +29,7 @@ returns-in-Err-Device-clause-calls g c =
 
 pub carry_all-carried-requires-clause-shaped : goal.carry_all-carried-requires-clause-shaped
 carry_all-carried-requires-clause-shaped g c =
-    shaped_geometry (g.R.RegFile.dims c.shape.new.self) c.arrays.result c.in-Ok-shape.ensures.dims c.arrays.ensures.value
+    shaped_geometry (g.R.RegFile.dims c.shape.new.self) c.arrays.result c.greatest_bits-2.result c.in-Ok-shape.ensures.dims c.arrays.ensures.value c.greatest_bits-2.ensures.value
 
 pub returns-clause-verdict : goal.returns-clause-verdict
 returns-clause-verdict g c =

@@ -9,7 +9,7 @@ use Rattle.readout.proofs.tests.TwoTasksTaskView.cell.Goals as goal
 pub read-requires : goal.read-requires
 read-requires g c =
     let view = c.args.self.now in
-    let geometry : Geometry = equal_geometry 2 (record { cmus = 2; units = 2; bits = 10 }) in
+    let geometry : Geometry = equal_geometry 2 (record { cmus = 2; units = 2; bits = 10 }) 5 in
     let tasks : List PlacedTask = (record { task = view.hot; places = view.first ∷ view.second ∷ [] }) ∷ (record { task = view.other; places = view.third ∷ [] }) ∷ [] in
     let array : c.placed-place.result.array ≡ (place_at (placed_task_at tasks c.args.at) c.args.row).array = ap (λ (p : Placed). p.array) c.placed-place.ensures in
     let block : c.part_of.result ≡ block_of c.args.side (place_at (placed_task_at tasks c.args.at) c.args.row) =
@@ -21,7 +21,7 @@ read-requires g c =
 pub overflow_add-addr : goal.overflow_add-addr
 overflow_add-addr g c =
     let view = c.args.self.now in
-    let geometry : Geometry = equal_geometry 2 (record { cmus = 2; units = 2; bits = 10 }) in
+    let geometry : Geometry = equal_geometry 2 (record { cmus = 2; units = 2; bits = 10 }) 5 in
     let tasks : List PlacedTask = (record { task = view.hot; places = view.first ∷ view.second ∷ [] }) ∷ (record { task = view.other; places = view.third ∷ [] }) ∷ [] in
     let block : c.part_of.result ≡ block_of c.args.side (place_at (placed_task_at tasks c.args.at) c.args.row) =
     c.part_of.ensures ∙ ap (block_of c.args.side) c.placed-place.ensures in
