@@ -1,5 +1,5 @@
 -- A canonical text that is read as a command is what is printed of it.
-use Rattle.std.proofs.Common.{◌≡◌, ℕ, ◌==◌, Bool, true, false, not, cond, nat_lt, List, [], ◌∷◌, ◌++◌, length, take, drop, codes, Option, None, Some, IfSome, ok_or, option_and_then, Result, Ok, Err, refl, ap, sym, ◌∙◌, arith}
+use Rattle.std.proofs.Common.{◌≡◌, ℕ, ◌==◌, Bool, true, false, not, cond, nat_lt, List, [], ◌∷◌, ◌++◌, length, take, drop, codes, Option, None, Some, IfSome, IsTrue, ok_or, option_and_then, Result, Ok, Err, refl, ap, sym, ◌∙◌, arith}
 use Rattle.std.specs.List.{find, join_with_byte, list_all}
 use Rattle.std.specs.Fmt.{decimal}
 use Rattle.std.specs.Str.{bytes_eq}
@@ -9,27 +9,31 @@ use Rattle.std.proofs.lemmas.Slice.Eq.{bytes_eq-Decides}
 use Rattle.texts.specs.Cuts.{parts}
 use Rattle.texts.specs.Words.{words, word_at}
 use Rattle.texts.proofs.CutLemmas.{free_of, split_last}
-use Rattle.key_mask.specs.declared.keys.FieldFault.{FieldFault}
-use Rattle.key_mask.specs.Keys.{◌>>=◌, key_in, key_text}
+use Rattle.key_mask.specs.declared.items.FieldFault.{FieldFault}
+use Rattle.key_mask.specs.Items.{◌>>=◌}
+use Rattle.key_mask.specs.Keys.{is_canonical_key, key_in, key_text}
+use Rattle.key_mask.specs.Spellings.{has_no_leading_zero}
+use Rattle.key_mask.proofs.KeyLemmas.{only_key}
+use Rattle.key_mask.proofs.NumberLemmas.{number_text}
 use Rattle.pkt_headers.specs.declared.packets.Attr.{Attr}
 use Rattle.sketch_defs.specs.declared.kinds.Kind.{Kind}
 use Rattle.sketch_defs.specs.Names.{is_name}
 use Rattle.sketch_defs.specs.Tasks.{allows, allows_rows}
 use Rattle.task_filters.specs.Filters.{Pattern}
 use Rattle.task_filters.specs.Printing.{filter_text}
-use Rattle.task_filters.specs.Terms.{filter_in}
+use Rattle.task_filters.specs.Terms.{filter_in, is_canonical_filter}
+use Rattle.task_filters.proofs.OnlyLemmas.{only_filter}
 use Rattle.task_lang.specs.declared.commands.Command.{Command}
 use Rattle.task_lang.specs.declared.commands.Command.TheVariants as commands
 use Rattle.task_lang.specs.declared.commands.LineFault.{LineFault}
 use Rattle.task_lang.specs.declared.commands.LineFault.TheVariants as faults
 use Rattle.task_lang.specs.declared.commands.Verb.{Verb}
 use Rattle.task_lang.specs.declared.commands.Verb.TheVariants as verbs
-use Rattle.task_lang.specs.Canonical.{AreCanonicalOperands, AreTaskOperands, IsBehind, IsCanonicalFilter, IsCanonicalKey, IsCanonicalNumber, is_printed}
+use Rattle.task_lang.specs.Canonical.{AreCanonicalOperands, AreTaskOperands, IsBehind, is_printed}
 use Rattle.task_lang.specs.Laws.{CanonicalIsPrinted}
 use Rattle.task_lang.specs.Printing.{command_text, command_words}
 use Rattle.task_lang.specs.Script.{add_in, alone_in, at_line, command_by, command_in, counted, is_allowed, is_skipped, named_in, one, or_fault, packets_in, plain_line_in, query_in, resize_in, script_from, script_in, script_limit, with_front}
 use Rattle.task_lang.specs.Words.{after_label, all_attrs, all_kinds, all_verbs, attr_allowed, attr_in, attr_named, attr_word, full_number, kind_named, kind_word, name_in, rows_allowed, rows_in, verb_named, verb_word}
-use Rattle.task_lang.proofs.NumberLemmas.{number_printed}
 use Rattle.task_lang.proofs.TokenLemmas.{all_weaker, no_return}
 
 -- ---- steps that found something
@@ -101,10 +105,10 @@ rows_of_kind kind (Some other) rows e =
       | false ↦ λ e. absurd (cc)
     ] e
 
-number_said : (word : List ℕ) (n : ℕ) → IsCanonicalNumber word → full_number word ≡ Some n → word ≡ decimal n
-number_said word n first e = number_printed 10 4294967295 n word (omega arith) first e
+number_said : (word : List ℕ) (n : ℕ) → IsTrue (has_no_leading_zero word) → full_number word ≡ Some n → word ≡ decimal n
+number_said word n first e = number_text 10 4294967295 n word (omega arith) e first
 
-rows_said : (kind : Kind) (word : List ℕ) (rows : ℕ) → IsCanonicalNumber word → rows_in kind word ≡ Some rows → word ≡ decimal rows
+rows_said : (kind : Kind) (word : List ℕ) (rows : ℕ) → IsTrue (has_no_leading_zero word) → rows_in kind word ≡ Some rows → word ≡ decimal rows
 unfolding rows_in
 rows_said kind word rows first e = number_said word rows first (rows_of_kind kind (full_number word) rows e)
 
@@ -130,8 +134,8 @@ label_printed : (label word rest text : List ℕ) → after_label label word ≡
 label_printed label word rest text e same = label_said label word rest e ∙ ap (λ rest. label ++ rest) same
 
 -- a canonical part behind its label
-part_canonical : (label word rest : List ℕ) (P : List ℕ → Type 0) → IsBehind label P word → after_label label word ≡ Some rest → P rest
-part_canonical label word rest P canonical e = rw e at canonical
+part_canonical : (label word rest : List ℕ) (is_canonical : List ℕ → Bool) → IsBehind label is_canonical word → after_label label word ≡ Some rest → IsTrue (is_canonical rest)
+part_canonical label word rest is_canonical canonical e = rw e at canonical
 
 -- ---- so many words
 
@@ -294,15 +298,15 @@ add_words ws command canonical first e =
     let rows_are : word_at ws 3 ≡ decimal rows.0 = rows_said kind.0 (word_at ws 3) rows.0 canonical.rows rows.1 in
     let key_is : word_at ws 4 ≡ codes "key=" ++ key_text mask.0 =
     label_printed (codes "key=") (word_at ws 4) key.0 (key_text mask.0) key.1
-    (part_canonical (codes "key=") (word_at ws 4) key.0 IsCanonicalKey canonical.key key.1 mask.0 mask.1) in
+    (only_key key.0 mask.0 mask.1 (part_canonical (codes "key=") (word_at ws 4) key.0 is_canonical_key canonical.key key.1)) in
     let attr_is : word_at ws 5 ≡ codes "attr=" ++ attr_word weight.0 =
     label_printed (codes "attr=") (word_at ws 5) attr.0 (attr_word weight.0) attr.1 (attr_in_said kind.0 attr.0 weight.0 weight.1) in
     let filter_is : word_at ws 6 ≡ codes "filter=" ++ filter_text pattern.0 =
     label_printed (codes "filter=") (word_at ws 6) filter.0 (filter_text pattern.0) filter.1
-    (part_canonical (codes "filter=") (word_at ws 6) filter.0 IsCanonicalFilter canonical.filter filter.1 pattern.0 pattern.1) in
+    (only_filter filter.0 pattern.0 pattern.1 (part_canonical (codes "filter=") (word_at ws 6) filter.0 is_canonical_filter canonical.filter filter.1)) in
     let memory_is : word_at ws 7 ≡ codes "memory=" ++ decimal size.0 =
     label_printed (codes "memory=") (word_at ws 7) memory.0 (decimal size.0) memory.1
-    (number_said memory.0 size.0 (part_canonical (codes "memory=") (word_at ws 7) memory.0 IsCanonicalNumber canonical.memory memory.1) size.1) in
+    (number_said memory.0 size.0 (part_canonical (codes "memory=") (word_at ws 7) memory.0 has_no_leading_zero canonical.memory memory.1) size.1) in
     printed_of ws (commands.Add (record {
       name = name.0;
       kind = kind.0;
@@ -316,7 +320,7 @@ add_words ws command canonical first e =
 
 -- ---- the words of the other commands
 
-resize_words : (ws : Words) (command : Command) → IsBehind (codes "memory=") IsCanonicalNumber (word_at ws 2) → word_at ws 0 ≡ verb_word verbs.Resize
+resize_words : (ws : Words) (command : Command) → IsBehind (codes "memory=") has_no_leading_zero (word_at ws 2) → word_at ws 0 ≡ verb_word verbs.Resize
     → resize_in ws ≡ Ok command → ws ≡ command_words command
 unfolding resize_in
 resize_words ws command canonical first e =
@@ -332,10 +336,10 @@ resize_words ws command canonical first e =
     let name_is : word_at ws 1 ≡ name.0 = name_said (word_at ws 1) name.0 name.1 in
     let memory_is : word_at ws 2 ≡ codes "memory=" ++ decimal size.0 =
     label_printed (codes "memory=") (word_at ws 2) memory.0 (decimal size.0) memory.1
-    (number_said memory.0 size.0 (part_canonical (codes "memory=") (word_at ws 2) memory.0 IsCanonicalNumber canonical memory.1) size.1) in
+    (number_said memory.0 size.0 (part_canonical (codes "memory=") (word_at ws 2) memory.0 has_no_leading_zero canonical memory.1) size.1) in
     printed_of ws (commands.Resize name.0 size.0) command made (three_words ws count.0 ∙ (λ i. first i ∷ name_is i ∷ memory_is i ∷ []))
 
-query_words : (ws : Words) (command : Command) → IsCanonicalFilter (word_at ws 2) → word_at ws 0 ≡ verb_word verbs.Query
+query_words : (ws : Words) (command : Command) → IsTrue (is_canonical_filter (word_at ws 2)) → word_at ws 0 ≡ verb_word verbs.Query
     → query_in ws ≡ Ok command → ws ≡ command_words command
 unfolding query_in
 query_words ws command canonical first e =
@@ -347,10 +351,10 @@ query_words ws command canonical first e =
     let pattern = ok_bind (filter_in (word_at ws 2)) faults.At (λ (pattern : Pattern). Ok (commands.Query name.0 pattern)) command name.2 in
     let made : commands.Query name.0 pattern.0 ≡ command = cc (pattern.2) in
     let name_is : word_at ws 1 ≡ name.0 = name_said (word_at ws 1) name.0 name.1 in
-    let filter_is : word_at ws 2 ≡ filter_text pattern.0 = canonical pattern.0 pattern.1 in
+    let filter_is : word_at ws 2 ≡ filter_text pattern.0 = only_filter (word_at ws 2) pattern.0 pattern.1 canonical in
     printed_of ws (commands.Query name.0 pattern.0) command made (three_words ws count.0 ∙ (λ i. first i ∷ name_is i ∷ filter_is i ∷ []))
 
-packets_words : (ws : Words) (command : Command) → IsCanonicalNumber (word_at ws 1) → word_at ws 0 ≡ verb_word verbs.Packets
+packets_words : (ws : Words) (command : Command) → IsTrue (has_no_leading_zero (word_at ws 1)) → word_at ws 0 ≡ verb_word verbs.Packets
     → packets_in ws ≡ Ok command → ws ≡ command_words command
 unfolding packets_in
 packets_words ws command canonical first e =

@@ -1,5 +1,4 @@
 pub mod CanonicalLemmas
-pub mod NumberLemmas
 pub mod PrintLemmas
 pub mod ReadLemmas
 pub mod TokenLemmas

@@ -1,13 +1,8 @@
 -- How a script is read line by line.
-use Rattle.std.proofs.Common.{◌≡◌, ◌≢◌, ℕ, ◌+◌, ◌==◌, List, Option, None, Some, Result, Ok, Err, IsTrue, false, refl, sym, ◌∙◌, append_assoc}
-use Rattle.std.proofs.lemmas.Bool.{false_from_ne_true}
-use Rattle.std.proofs.lemmas.Slice.Eq.{bytes_eq-Decides}
-use Rattle.texts.specs.Cuts.{front, back, parts, parts_behind}
-use Rattle.texts.proofs.CutLemmas.{parts_first}
-use Rattle.key_mask.specs.Keys.{◌>>=◌}
-use Rattle.key_mask.specs.Masks.{no_lengths}
-use Rattle.sketch_defs.specs.declared.tasks.TaskFault.{TaskFault}
-use Rattle.sketch_defs.specs.Tasks.{Sketch, allows, allows_rows, first_fault, is_no_key}
+use Rattle.std.proofs.Common.{◌≡◌, ℕ, ◌+◌, ◌==◌, List, Option, None, Some, Result, Ok, Err, refl, sym, ◌∙◌, append_assoc}
+use Rattle.texts.specs.Cuts.{front, back, parts}
+use Rattle.texts.proofs.CutLemmas.{parts_behind, parts_first}
+use Rattle.key_mask.specs.Items.{◌>>=◌}
 use Rattle.task_lang.specs.declared.commands.Command.{Command}
 use Rattle.task_lang.specs.declared.commands.LineFault.{LineFault}
 use Rattle.task_lang.specs.declared.commands.ParseFail.{ParseFail}
@@ -16,17 +11,8 @@ use Rattle.task_lang.specs.declared.commands.ScriptFault.{ScriptFault}
 use Rattle.task_lang.specs.Reading.{GivesCommands, TakesLine}
 use Rattle.task_lang.specs.Script.{at_line, with_front, script_from, line_in}
 
-some_key : (key : List ℕ) → key ≢ no_lengths → is_no_key key ≡ false
-unfolding is_no_key
-some_key key some = false_from_ne_true _ (λ t. some ((bytes_eq-Decides key no_lengths).0 t))
-
--- parts that were judged make a task
-pub none_at_fault : (sketch : Sketch) (fault : TaskFault) → IsTrue (allows_rows sketch.kind sketch.rows) → sketch.key ≢ no_lengths
-    → IsTrue (allows sketch.kind sketch.attr) → first_fault sketch ≡ Some fault → ⊥
-none_at_fault sketch fault rows key attr e =
-    let some : is_no_key sketch.key ≡ false = some_key sketch.key key in
-    let none : first_fault sketch ≡ None = rw (rows, some, attr) refl in
-    cc
+pub not_both : {A : Type 0} {o : Option A} (fault : A) → o ≡ Some fault → o ≡ None → ⊥
+not_both fault some none = cc
 
 taken_by : (before after : List Command) (number : ℕ) (done : Unit {0}) (read : Result (List Command) LineFault) (later : Result (List Command) ScriptFault)
     → TakesLine (Ok done) number read before after

@@ -1,7 +1,7 @@
 -- Words of bytes that print, and the line that they make.
-use Rattle.std.proofs.Common.{◌≡◌, ℕ, zero, suc, ◌-◌, ◌/◌, ◌%◌, ◌≤◌, ◌==◌, ◌&&◌, Bool, true, false, not, cond, nat_lt, nat_le, List, [], ◌∷◌, ◌++◌, length, slice_index, Ok, IsTrue, refl, ◌∙◌, arith}
+use Rattle.std.proofs.Common.{◌≡◌, ℕ, zero, suc, ◌-◌, ◌^◌, ◌<◌, ◌≤◌, ◌==◌, ◌&&◌, Bool, true, false, not, nat_lt, nat_le, List, [], ◌∷◌, ◌++◌, length, slice_index, Ok, IsTrue, refl, ◌∙◌, arith}
 use Rattle.std.specs.List.{join_with_byte, list_all}
-use Rattle.std.specs.Fmt.{decimal, digits, digits_onto, digit_glyph}
+use Rattle.std.specs.Fmt.{decimal}
 use Rattle.std.specs.Str.Lines.{strip_carriage_return}
 use Rattle.std.proofs.lemmas.Bool.{false≢true}
 use Rattle.std.proofs.lemmas.Bool.Decides.{nat_tests}
@@ -9,8 +9,8 @@ use Rattle.std.proofs.lemmas.List.Folds.{list_all-append}
 use Rattle.texts.specs.Words.{is_blank}
 use Rattle.texts.proofs.CutLemmas.{free_of, split_last}
 use Rattle.texts.proofs.WordLemmas.{is_word, words_joined}
-use Rattle.key_mask.proofs.PrintLemmas.{each_below}
-use Rattle.sketch_defs.proofs.NameLemmas.{name_parts}
+use Rattle.key_mask.proofs.NumberLemmas.{decimal_pass}
+use Rattle.sketch_defs.proofs.NameLemmas.{both_true, name_parts}
 use Rattle.sketch_defs.specs.Names.{is_name, is_name_byte, starts_low}
 use Rattle.task_lang.specs.declared.commands.Command.{Command}
 use Rattle.task_lang.specs.Canonical.{is_printed}
@@ -26,50 +26,32 @@ is_token word = list_all is_graph word && nat_lt 0 (length word)
 
 -- ---- tests of lists
 
-pub each_true : (a b : Bool) → (a && b) ≡ true → (a ≡ true) × (b ≡ true)
-each_true true b e = (refl, e)
-each_true false b e = absurd (false≢true e)
-
 pub all_append : (p : ℕ → Bool) (xs ys : List ℕ) → list_all p xs ≡ true → list_all p ys ≡ true → list_all p (xs ++ ys) ≡ true
 all_append p xs ys e h = list_all-append p xs ys ∙ rw (e, h) refl
 
 pub all_weaker : (p q : ℕ → Bool) → ((c : ℕ) → p c ≡ true → q c ≡ true) → (xs : List ℕ) → list_all p xs ≡ true → list_all q xs ≡ true
 all_weaker p q each [] e = refl
 all_weaker p q each (x ∷ xs) e =
-    let both = each_true (p x) (list_all p xs) e in
+    let both = both_true (p x) (list_all p xs) e in
     rw (each x both.0) (all_weaker p q each xs both.1)
 
 -- what holds of 0 and of each byte that passes holds at any index
 pub at_each : (p : ℕ → Bool) (P : ℕ → Type 0) → ((c : ℕ) → p c ≡ true → P c) → P 0 → (xs : List ℕ) → list_all p xs ≡ true → (i : ℕ) → P (slice_index xs i)
 at_each p P each none [] e i = none
-at_each p P each none (x ∷ xs) e zero = each x (each_true (p x) (list_all p xs) e).0
-at_each p P each none (x ∷ xs) e (suc i) = at_each p P each none xs (each_true (p x) (list_all p xs) e).1 i
+at_each p P each none (x ∷ xs) e zero = each x (both_true (p x) (list_all p xs) e).0
+at_each p P each none (x ∷ xs) e (suc i) = at_each p P each none xs (both_true (p x) (list_all p xs) e).1 i
 
 pub all_joined : (p : ℕ → Bool) (c : ℕ) → p c ≡ true → (items : List (List ℕ)) → list_all (list_all p) items ≡ true → list_all p (join_with_byte c items) ≡ true
 all_joined p c t [] e = refl
-all_joined p c t (item ∷ []) e = (each_true (list_all p item) true e).0
+all_joined p c t (item ∷ []) e = (both_true (list_all p item) true e).0
 all_joined p c t (item ∷ next ∷ items) e =
-    let both = each_true (list_all p item) (list_all (list_all p) (next ∷ items)) e in
+    let both = both_true (list_all p item) (list_all (list_all p) (next ∷ items)) e in
     all_append p item (c ∷ join_with_byte c (next ∷ items)) both.0 (rw t (all_joined p c t (next ∷ items) both.1))
 
 -- ---- numbers
 
-digit_graph : (n : ℕ) → is_graph (digit_glyph false (n % 10)) ≡ true
-digit_graph n = each_below (λ k. is_graph (digit_glyph false k)) 10 refl (n % 10) (omega arith)
-
-digits_graph : (k n : ℕ) (behind : List ℕ) → list_all is_graph behind ≡ true → list_all is_graph (digits_onto k 10 false n behind) ≡ true
-digits_graph zero n behind e = e
-digits_graph (suc k) n behind e =
-    let digit : ℕ = digit_glyph false (n % 10) in
-    let more : list_all is_graph (digit ∷ behind) ≡ true = rw (digit_graph n) e in
-    elim (n / 10 == 0) as (λ t. list_all is_graph (cond t (digit ∷ behind) (digits_onto k 10 false (n / 10) (digit ∷ behind))) ≡ true) [
-      | true ↦ more
-      | false ↦ digits_graph k (n / 10) (digit ∷ behind) more
-    ]
-
-pub decimal_graph : (n : ℕ) → list_all is_graph (decimal n) ≡ true
-unfolding digits
-decimal_graph n = digits_graph 64 n [] refl
+pub decimal_graph : (n : ℕ) → n < 2 ^ 32 → list_all is_graph (decimal n) ≡ true
+decimal_graph n small = decimal_pass is_graph (λ c low high. grind (arith, nat_tests)) n (omega arith)
 
 -- ---- names
 
@@ -93,15 +75,15 @@ token_from byte rest e =
 pub tokens_printed : (words : List (List ℕ)) → list_all is_token words ≡ true → list_all (list_all is_printed) words ≡ true
 tokens_printed [] e = refl
 tokens_printed (word ∷ words) e =
-    let both = each_true (is_token word) (list_all is_token words) e in
-    let graph = (each_true (list_all is_graph word) (nat_lt 0 (length word)) both.0).0 in
+    let both = both_true (is_token word) (list_all is_token words) e in
+    let graph = (both_true (list_all is_graph word) (nat_lt 0 (length word)) both.0).0 in
     rw (all_weaker is_graph is_printed (λ c t. grind (arith, nat_tests, t)) word graph) (tokens_printed words both.1)
 
 pub tokens_words : (words : List (List ℕ)) → list_all is_token words ≡ true → list_all is_word words ≡ true
 tokens_words [] e = refl
 tokens_words (word ∷ words) e =
-    let both = each_true (is_token word) (list_all is_token words) e in
-    let parts = each_true (list_all is_graph word) (nat_lt 0 (length word)) both.0 in
+    let both = both_true (is_token word) (list_all is_token words) e in
+    let parts = both_true (list_all is_graph word) (nat_lt 0 (length word)) both.0 in
     let free : free_of is_blank word ≡ true = all_weaker is_graph (λ c. not (is_blank c)) (λ c t. grind (arith, nat_tests, t)) word parts.0 in
     rw (free, parts.1) (tokens_words words both.1)
 

@@ -4,15 +4,18 @@ use Rattle.std.proofs.Common.{refl}
 use Rattle.std.specs.Fmt.{digits}
 use Rattle.std.specs.List.{join_with_byte}
 use Rattle.texts.specs.Words.{words}
-use Rattle.key_mask.specs.declared.fields.Field.TheVariants.{SrcIp, Proto}
-use Rattle.key_mask.specs.declared.keys.FieldKind.TheVariants.{BadValue}
-use Rattle.key_mask.specs.Keys.{key_in, with_item, field_named, key_text}
+use Rattle.key_mask.specs.declared.fields.Field.TheVariants.{SrcIp, Proto, EtherType}
+use Rattle.key_mask.specs.declared.items.FieldKind.TheVariants.{BadPrefix, BadValue}
+use Rattle.key_mask.specs.Items.{field_named, items_text}
+use Rattle.key_mask.specs.Keys.{key_in, with_item}
 use Rattle.key_mask.specs.Numbers.{number_in, hex_in}
 use Rattle.key_mask.specs.Masks.{lengths_of}
+use Rattle.key_mask.specs.Spellings.{has_no_leading_zero, hex_text}
+use Rattle.key_mask.specs.Vectors.{value_at}
 use Rattle.pkt_headers.specs.declared.packets.Attr.TheVariants as attrs
 use Rattle.sketch_defs.specs.declared.kinds.Kind.TheVariants as kinds
 use Rattle.task_filters.specs.Terms.{terms_in, with_term}
-use Rattle.task_filters.specs.Printing.{filter_text, hex_text}
+use Rattle.task_filters.specs.Printing.{filter_text}
 use Rattle.task_lang.specs.declared.commands.Command.{Command}
 use Rattle.task_lang.specs.declared.commands.Command.TheVariants as commands
 use Rattle.task_lang.specs.declared.commands.LineFault.{LineFault}
@@ -20,7 +23,6 @@ use Rattle.task_lang.specs.declared.commands.LineFault.TheVariants as faults
 use Rattle.task_lang.specs.declared.commands.ScriptFault.{ScriptFault}
 use Rattle.task_lang.specs.Words.{verb_named, kind_named, attr_named, rows_in, attr_in, after_label}
 use Rattle.task_lang.specs.Script.{add_in, alone_in, command_in, plain_line_in, script_in, script_limit}
-use Rattle.task_lang.specs.Canonical.{has_no_leading_zero}
 use Rattle.task_lang.specs.Printing.{command_text}
 
 abbrev refused : ℕ → LineFault → Result (List Command) ScriptFault
@@ -53,11 +55,11 @@ canonical : command_text (commands.Add (record {
   rows = 1;
   key = lengths_of ((SrcIp, 32) ∷ (Proto, 8) ∷ []);
   attr = attrs.Ttl;
-  filter = record { value = replicate 14 0 ++ 8 ∷ 0 ∷ []; mask = 0 ∷ 0 ∷ 0 ∷ 0 ∷ 0 ∷ 0 ∷ 16 ∷ [] };
+  filter = record { value = replicate 14 0 ++ 8 ∷ replicate 33 0; mask = lengths_of ((EtherType, 16) ∷ []) };
   size = 32;
 }))
     ≡ codes "add t cms 1 key=src_ip,proto attr=ttl filter=ethertype:0x0800 memory=32"
-unfolding command_text key_text filter_text hex_text digits
+unfolding command_text items_text filter_text hex_text value_at digits
 canonical = refl
 
 -- what tells that a text is not canonical: blanks, and numbers with a zero in front

@@ -1,11 +1,10 @@
 -- The one spelling of a command among all that are read alike, told by the bytes of the text alone.
-use Rattle.std.specs.Prelude.{◌≡◌, ℕ, ◌==◌, ◌&&◌, ◌||◌, Bool, true, not, nat_le, List, length, slice_index, codes, IfSome, Ok}
+use Rattle.std.specs.Prelude.{◌≡◌, ℕ, ◌&&◌, Bool, true, nat_le, List, codes, IfSome, IsTrue}
 use Rattle.std.specs.List.{join_with_byte, list_all}
 use Rattle.texts.specs.Words.{words, word_at}
-use Rattle.key_mask.specs.Keys.{key_in, key_text}
-use Rattle.task_filters.specs.Filters.{Pattern}
-use Rattle.task_filters.specs.Printing.{filter_text}
-use Rattle.task_filters.specs.Terms.{filter_in}
+use Rattle.key_mask.specs.Keys.{is_canonical_key}
+use Rattle.key_mask.specs.Spellings.{has_no_leading_zero}
+use Rattle.task_filters.specs.Terms.{is_canonical_filter}
 use Rattle.task_lang.specs.declared.commands.Verb.{Verb}
 use Rattle.task_lang.specs.declared.commands.Verb.TheVariants as verbs
 use Rattle.task_lang.specs.Words.{verb_named, after_label}
@@ -14,39 +13,23 @@ use Rattle.task_lang.specs.Words.{verb_named, after_label}
 abbrev pub is_printed : ℕ → Bool
 is_printed byte = nat_le 32 byte && nat_le byte 126
 
--- no zero stands in front of another digit
-abbrev pub has_no_leading_zero : List ℕ → Bool
-has_no_leading_zero text = length text == 1 || not (slice_index text 0 == 48)
-
--- a number has no zero in front
-abbrev pub IsCanonicalNumber : List ℕ → Type 0
-IsCanonicalNumber word = has_no_leading_zero word ≡ true
-
--- a key that is the printed text of the mask that it writes
-abbrev pub IsCanonicalKey : List ℕ → Type 0
-IsCanonicalKey key = (mask : List ℕ) → key_in key ≡ Ok mask → key ≡ key_text mask
-
--- a filter that is the printed text of the filter that it writes
-abbrev pub IsCanonicalFilter : List ℕ → Type 0
-IsCanonicalFilter filter = (pattern : Pattern) → filter_in filter ≡ Ok pattern → filter ≡ filter_text pattern
-
 -- what stands behind the label is canonical
-abbrev pub IsBehind : List ℕ → (List ℕ → Type 0) → List ℕ → Type 0
-IsBehind label IsCanonicalPart word = IfSome (after_label label word) IsCanonicalPart
+abbrev pub IsBehind : List ℕ → (List ℕ → Bool) → List ℕ → Type 0
+IsBehind label is_canonical word = IfSome (after_label label word) (λ rest. IsTrue (is_canonical rest))
 
 -- the operands of `add`
 pub record AreTaskOperands (ws : List (List ℕ)) : Type 0 where
-  pub rows : IsCanonicalNumber (word_at ws 3)
-  pub key : IsBehind (codes "key=") IsCanonicalKey (word_at ws 4)
-  pub filter : IsBehind (codes "filter=") IsCanonicalFilter (word_at ws 6)
-  pub memory : IsBehind (codes "memory=") IsCanonicalNumber (word_at ws 7)
+  pub rows : IsTrue (has_no_leading_zero (word_at ws 3))
+  pub key : IsBehind (codes "key=") is_canonical_key (word_at ws 4)
+  pub filter : IsBehind (codes "filter=") is_canonical_filter (word_at ws 6)
+  pub memory : IsBehind (codes "memory=") has_no_leading_zero (word_at ws 7)
 
 -- those operands of a command that could be spelled in another way: numbers, keys and filters
 abbrev pub AreCanonicalOperands : Verb → List (List ℕ) → Type 0
 AreCanonicalOperands verbs.Add ws = AreTaskOperands ws
-AreCanonicalOperands verbs.Resize ws = IsBehind (codes "memory=") IsCanonicalNumber (word_at ws 2)
-AreCanonicalOperands verbs.Packets ws = IsCanonicalNumber (word_at ws 1)
-AreCanonicalOperands verbs.Query ws = IsCanonicalFilter (word_at ws 2)
+AreCanonicalOperands verbs.Resize ws = IsBehind (codes "memory=") has_no_leading_zero (word_at ws 2)
+AreCanonicalOperands verbs.Packets ws = IsTrue (has_no_leading_zero (word_at ws 1))
+AreCanonicalOperands verbs.Query ws = IsTrue (is_canonical_filter (word_at ws 2))
 AreCanonicalOperands verbs.Remove ws = Unit {0}
 AreCanonicalOperands verbs.Release ws = Unit {0}
 AreCanonicalOperands verbs.Run ws = Unit {0}

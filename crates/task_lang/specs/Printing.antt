@@ -1,18 +1,18 @@
 -- Commands as they are printed: one canonical text for each.
-use Rattle.std.specs.Prelude.{◌≡◌, ℕ, ◌+◌, ◌<◌, ◌≤◌, ◌^◌, IsTrue, List, [], ◌∷◌, ◌++◌, length, None, Ok, codes}
+use Rattle.std.specs.Prelude.{◌≢◌, ℕ, ◌+◌, ◌<◌, ◌^◌, IsTrue, List, [], ◌∷◌, ◌++◌, length, codes}
 use Rattle.std.specs.List.{join_with_byte}
 use Rattle.std.specs.Fmt.{decimal}
-use Rattle.key_mask.specs.Keys.{key_in, key_text}
-use Rattle.task_filters.specs.Filters.{IsVector, Pattern}
-use Rattle.task_filters.specs.Printing.{filter_text}
-use Rattle.task_filters.specs.Terms.{filter_in}
+use Rattle.key_mask.specs.Keys.{key_text, longest_key}
+use Rattle.key_mask.specs.Masks.{AreLengths, no_lengths}
+use Rattle.task_filters.specs.Filters.{IsFilter}
+use Rattle.task_filters.specs.Printing.{filter_text, longest_filter}
 use Rattle.sketch_defs.specs.declared.names.TheConstants.{NAME_BYTES}
 use Rattle.sketch_defs.specs.Names.{is_name}
-use Rattle.sketch_defs.specs.Tasks.{Sketch, first_fault}
+use Rattle.sketch_defs.specs.Tasks.{Sketch, allows, allows_rows}
 use Rattle.task_lang.specs.declared.commands.Command.{Command}
 use Rattle.task_lang.specs.declared.commands.Command.TheVariants as commands
 use Rattle.task_lang.specs.declared.commands.Verb.TheVariants as verbs
-use Rattle.task_lang.specs.Words.{verb_word, kind_word, attr_word}
+use Rattle.task_lang.specs.Words.{verb_word, kind_word, longest_kind, attr_word, longest_attr, longest_number}
 
 -- the words behind `add`
 abbrev pub task_words : Sketch → List (List ℕ)
@@ -43,45 +43,35 @@ task_text task = join_with_byte 32 (task_words task)
 unfoldable pub command_text : Command → List ℕ
 command_text command = join_with_byte 32 (command_words command)
 
--- how many bytes a key and a filter have at most
-abbrev pub longest_key : ℕ
-longest_key = 98
-
-abbrev pub longest_filter : ℕ
-longest_filter = 210
-
 -- how many bytes a name, a kind and a number of rows have at most, with a space before each but the name
 abbrev pub longest_front : ℕ
-longest_front = NAME_BYTES + (1 + 9) + (1 + 10)
+longest_front = NAME_BYTES + (1 + longest_kind) + (1 + longest_number)
+
+-- how many bytes a part of a task has at most with its label, given how many it has without
+abbrev pub labelled : List ℕ → ℕ → ℕ
+labelled label longest = length label + longest
 
 -- how many bytes a key, an attribute, a filter and a size have at most, each behind a space and its label
 abbrev pub longest_labelled : ℕ
-longest_labelled = (5 + longest_key) + (6 + 7) + (8 + longest_filter) + (8 + 10)
+longest_labelled =
+    labelled (codes " key=") longest_key + labelled (codes " attr=") longest_attr + labelled (codes " filter=") longest_filter
+    + labelled (codes " memory=") longest_number
 
 -- how many bytes the text of a task has at most
 abbrev pub longest_task : ℕ
 longest_task = longest_front + longest_labelled
 
--- a key that is read again from its text
-pub record IsKey (key : List ℕ) : Type 0 where
-  pub again : key_in (key_text key) ≡ Ok key
-  pub short : length (key_text key) ≤ longest_key
-
--- a filter that is read again from its text
-pub record IsFilter (pattern : Pattern) : Type 0 where
-  pub bytes : IsVector pattern.value
-  pub again : filter_in (filter_text pattern) ≡ Ok pattern
-  pub short : length (filter_text pattern) ≤ longest_filter
-
--- a task that a text can write
+-- a task that there is
 pub record IsTask (task : Sketch) : Type 0 where
   pub named : IsTrue (is_name task.name)
-  pub allowed : first_fault task ≡ None
-  pub key : IsKey task.key
+  pub rows : IsTrue (allows_rows task.kind task.rows)
+  pub key : AreLengths task.key
+  pub stands : task.key ≢ no_lengths
+  pub attr : IsTrue (allows task.kind task.attr)
   pub filter : IsFilter task.filter
   pub size : task.size < 2 ^ 32
 
--- a command that a text can write
+-- a command that there is
 abbrev pub IsCommand : Command → Type 0
 IsCommand (commands.Add task) = IsTask task
 IsCommand (commands.Resize name size) = IsTrue (is_name name) × (size < 2 ^ 32)

@@ -4,8 +4,9 @@ use Rattle.std.specs.List.{list_all}
 use Rattle.std.specs.Str.Lines.{strip_carriage_return}
 use Rattle.texts.specs.Cuts.{parts}
 use Rattle.texts.specs.Words.{is_blank, words, word_at}
-use Rattle.key_mask.specs.declared.keys.FieldFault.{FieldFault}
-use Rattle.key_mask.specs.Keys.{◌>>=◌, key_in}
+use Rattle.key_mask.specs.declared.items.FieldFault.{FieldFault}
+use Rattle.key_mask.specs.Items.{◌>>=◌}
+use Rattle.key_mask.specs.Keys.{key_in}
 use Rattle.task_filters.specs.Terms.{filter_in}
 use Rattle.task_lang.specs.declared.commands.Command.{Command}
 use Rattle.task_lang.specs.declared.commands.Command.TheVariants as commands

@@ -28,6 +28,10 @@ verb_word verbs.Card = codes "card"
 verb_word verbs.Show = codes "show"
 verb_word verbs.Stat = codes "stat"
 
+-- how many bytes the longest of them has
+abbrev pub longest_verb : ℕ
+longest_verb = length (verb_word verbs.Packets)
+
 abbrev pub all_verbs : List Verb
 all_verbs =
     verbs.Add ∷ verbs.Resize ∷ verbs.Remove ∷ verbs.Release ∷ verbs.Packets ∷ verbs.Run ∷ verbs.Read ∷ verbs.Frozen ∷ verbs.Query
@@ -48,6 +52,10 @@ kind_word kinds.Hll = codes "hll"
 kind_word kinds.FlagOr = codes "flag_or"
 kind_word kinds.FlagAnd = codes "flag_and"
 
+-- how many bytes the longest of them has
+abbrev pub longest_kind : ℕ
+longest_kind = length (kind_word kinds.SumaxSum)
+
 abbrev pub all_kinds : List Kind
 all_kinds =
     kinds.Cms ∷ kinds.SumaxSum ∷ kinds.SumaxMax ∷ kinds.Bloom ∷ kinds.Mrac ∷ kinds.Hll ∷ kinds.FlagOr ∷ kinds.FlagAnd ∷ []
@@ -64,6 +72,10 @@ attr_word attrs.Ttl = codes "ttl"
 attr_word attrs.Flags = codes "flags"
 attr_word attrs.Flow = codes "flow"
 
+-- how many bytes the longest of them has
+abbrev pub longest_attr : ℕ
+longest_attr = length (attr_word attrs.Packets)
+
 abbrev pub all_attrs : List Attr
 all_attrs = attrs.Packets ∷ attrs.Bytes ∷ attrs.Ttl ∷ attrs.Flags ∷ attrs.Flow ∷ []
 
@@ -71,9 +83,13 @@ all_attrs = attrs.Packets ∷ attrs.Bytes ∷ attrs.Ttl ∷ attrs.Flags ∷ attr
 unfoldable pub attr_named : List ℕ → Option Attr
 attr_named word = find (λ attr. bytes_eq word (attr_word attr)) all_attrs
 
+-- how many digits a number of 32 bits has at most
+abbrev pub longest_number : ℕ
+longest_number = 10
+
 -- one to ten digits of a number of 32 bits
 abbrev pub full_number : List ℕ → Option ℕ
-full_number word = number_in 10 4294967295 word
+full_number word = number_in longest_number 4294967295 word
 
 abbrev pub name_in : List ℕ → Option (List ℕ)
 name_in word = if is_name word then Some word else None

@@ -2,6 +2,8 @@
 #![tactic(auto)]
 
 mod commands;
+#[cfg(test)]
+mod fault_tests;
 pub mod laws;
 mod printing;
 mod reading;

@@ -1,30 +1,29 @@
 //! Commands as they are printed: one canonical line for each.
-ghost use Rattle.std.specs.Prelude.{◌≡◌, ◌≢◌, ◌+◌, ◌≤◌, ◌<◌, ◌^◌, ◌∷◌, [], ◌++◌, IsTrue, None, Ok, codes, length};
+ghost use Rattle.std.specs.Prelude.{◌≡◌, ◌≢◌, ◌+◌, ◌≤◌, ◌<◌, ◌^◌, ◌∷◌, [], ◌++◌, IsTrue, Ok, codes, length};
 ghost use Rattle.std.specs.Fmt.{decimal};
-ghost use Rattle.key_mask.specs.Keys.{key_text};
-ghost use Rattle.key_mask.specs.Masks.{no_lengths};
-ghost use Rattle.task_filters.specs.Filters.{IsVector};
-ghost use Rattle.task_filters.specs.Printing.{filter_text};
+ghost use Rattle.key_mask.specs.Keys.{key_text, longest_key};
+ghost use Rattle.key_mask.specs.Masks.{AreLengths, no_lengths};
+ghost use Rattle.task_filters.specs.Filters.{IsFilter};
+ghost use Rattle.task_filters.specs.Printing.{filter_text, longest_filter};
 ghost use Rattle.sketch_defs.specs.declared.names.TheConstants.{NAME_BYTES};
 ghost use Rattle.sketch_defs.specs.Names.{is_name};
-ghost use Rattle.sketch_defs.specs.Tasks.{first_fault};
+ghost use Rattle.sketch_defs.specs.Tasks.{allows, allows_rows};
 ghost use Rattle.task_lang.specs.declared.commands.Command.TheVariants as commands;
-ghost use Rattle.task_lang.specs.Words.{verb_word, kind_word, attr_word};
-ghost use Rattle.task_lang.specs.Script.{script_in};
+ghost use Rattle.task_lang.specs.Words.{verb_word, longest_verb, kind_word, attr_word, longest_attr};
+ghost use Rattle.task_lang.specs.Script.{script_in, script_limit};
 ghost use Rattle.task_lang.specs.Canonical.{IsCanonical};
-ghost use Rattle.task_lang.specs.Printing.{command_text, task_text, longest_key, longest_filter, longest_front, longest_labelled, longest_task, IsCommand, IsFilter, IsKey, IsTask};
+ghost use Rattle.task_lang.specs.Printing.{command_text, task_text, labelled, longest_front, longest_labelled, longest_task, IsCommand, IsTask};
 
 use crate::commands::{Command, Verb};
 use crate::words::{attr_word, kind_word, verb_word};
 use itoa::Buffer;
-use key_mask::{KEY_BYTES, Line, Mask, put_key};
+use key_mask::{Line, Mask, put_key};
 use pkt_headers::Attr;
 use sketch_defs::{Name, Task};
 use task_filters::Filter;
 
 /// The canonical text of the command, which is read as it: its words in their order with single
 /// spaces between, and no end of the line.
-#[tactic(auto, using(crate::proofs::PrintLemmas::command_again, crate::proofs::PrintLemmas::command_canonical))]
 pub fn put_command(command: &Command) -> Line
     ensures text { result.bytes ≡ command_text command.now }
     ensures again { script_in result.bytes ≡ Ok (command.now ∷ []) }
@@ -34,7 +33,7 @@ pub fn put_command(command: &Command) -> Line
 }
 
 /// The canonical text of the task: what stands behind `add` in the command that adds it.
-#[tactic(auto, using(crate::proofs::PrintLemmas::task_again, crate::proofs::PrintLemmas::task_canonical))]
+#[tactic(auto, using(crate::proofs::PrintLemmas::task_again))]
 pub fn put_task(task: &Task) -> Line
     ensures text { result.bytes ≡ task_text task.now }
     ensures again { script_in (codes "add " ++ result.bytes) ≡ Ok (commands.Add task.now ∷ []) }
@@ -50,6 +49,7 @@ pub fn put_task(task: &Task) -> Line
 fn command_line(command: &Command) -> Line
     ensures text { result.bytes ≡ command_text command.now }
     ensures known { IsCommand command.now }
+    ensures short { length result.bytes ≤ script_limit }
 {
     match command {
         Command::Add(task) => add_line(task),
@@ -72,6 +72,7 @@ fn command_line(command: &Command) -> Line
 fn add_line(task: &Task) -> Line
     ensures text { result.bytes ≡ command_text (commands.Add task.now) }
     ensures known { IsTask task.now }
+    ensures short { length result.bytes ≤ script_limit }
 {
     let mut line = verb_line(Verb::Add);
     line.push_str(" ");
@@ -83,6 +84,7 @@ fn add_line(task: &Task) -> Line
 fn resize_line(name: &Name, size: u32) -> Line
     ensures text { result.bytes ≡ command_text (commands.Resize name.now size) }
     ensures named { IsTrue (is_name name.now) }
+    ensures short { length result.bytes ≤ script_limit }
 {
     let mut line = named_line(Verb::Resize, name);
     line.push_str(" memory=");
@@ -92,7 +94,8 @@ fn resize_line(name: &Name, size: u32) -> Line
 
 #[tactic(auto, unfolding(crate::specs::Printing::command_text))]
 fn packets_line(number: u32) -> Line
-    ensures { result.bytes ≡ command_text (commands.Packets number) }
+    ensures text { result.bytes ≡ command_text (commands.Packets number) }
+    ensures short { length result.bytes ≤ script_limit }
 {
     let mut line = verb_line(Verb::Packets);
     line.push_str(" ");
@@ -105,6 +108,7 @@ fn query_line(name: &Name, at: &Filter) -> Line
     ensures text { result.bytes ≡ command_text (commands.Query name.now at.now) }
     ensures named { IsTrue (is_name name.now) }
     ensures known { IsFilter at.now }
+    ensures short { length result.bytes ≤ script_limit }
 {
     let mut line = named_line(Verb::Query, name);
     line.push_str(" ");
@@ -116,7 +120,7 @@ fn query_line(name: &Name, at: &Filter) -> Line
 fn named_line(verb: Verb, name: &Name) -> Line
     ensures text { result.bytes ≡ verb_word verb ++ 32 ∷ name.now }
     ensures named { IsTrue (is_name name.now) }
-    ensures short { length result.bytes ≤ 24 }
+    ensures short { length result.bytes ≤ longest_verb + (1 + NAME_BYTES) }
 {
     let mut line = verb_line(verb);
     line.push_str(" ");
@@ -127,7 +131,7 @@ fn named_line(verb: Verb, name: &Name) -> Line
 /// The word of a command alone.
 fn verb_line(verb: Verb) -> Line
     ensures text { result.bytes ≡ verb_word verb }
-    ensures short { length result.bytes ≤ 7 }
+    ensures short { length result.bytes ≤ longest_verb }
 {
     let mut line = Line::new();
     line.push_str(verb_word(verb));
@@ -152,7 +156,7 @@ fn put_front(line: &mut Line, task: &Task)
     ensures text { let sketch = task.now in
         line.new.bytes ≡ line.old.bytes ++ (sketch.name ++ 32 ∷ (kind_word sketch.kind ++ 32 ∷ decimal sketch.rows)) }
     ensures named { IsTrue (is_name task.now.name) }
-    ensures allowed { first_fault task.now ≡ None }
+    ensures rows { IsTrue (allows_rows task.now.kind task.now.rows) }
     ensures short { length line.new.bytes ≤ length line.old.bytes + longest_front }
 {
     put_name(line, task.name());
@@ -164,12 +168,13 @@ fn put_front(line: &mut Line, task: &Task)
 
 /// Appends the words of a task that have labels, each behind a space.
 fn put_labelled(line: &mut Line, task: &Task)
-    requires room { length line.old.bytes + longest_labelled ≤ 512 }
-    requires allowed { first_fault task.now ≡ None }
+    requires { length line.old.bytes + longest_labelled ≤ 512 }
     ensures text { let sketch = task.now in
         line.new.bytes ≡ line.old.bytes ++ (codes " key=" ++ (key_text sketch.key ++ (codes " attr=" ++ (attr_word sketch.attr
         ++ (codes " filter=" ++ (filter_text sketch.filter ++ (codes " memory=" ++ decimal sketch.size))))))) }
-    ensures key { IsKey task.now.key }
+    ensures key { AreLengths task.now.key }
+    ensures stands { task.now.key ≢ no_lengths }
+    ensures attr { IsTrue (allows task.now.kind task.now.attr) }
     ensures filter { IsFilter task.now.filter }
     ensures size { task.now.size < 2 ^ 32 }
     ensures short { length line.new.bytes ≤ length line.old.bytes + longest_labelled }
@@ -184,11 +189,11 @@ fn put_labelled(line: &mut Line, task: &Task)
 
 /// Appends the key, with its label.
 fn put_mask(line: &mut Line, key: &Mask)
-    requires room { length line.old.bytes + (5 + longest_key) ≤ 512 }
+    requires room { length line.old.bytes + labelled (codes " key=") longest_key ≤ 512 }
     requires stands { key.now ≢ no_lengths }
     ensures text { line.new.bytes ≡ line.old.bytes ++ (codes " key=" ++ key_text key.now) }
-    ensures known { IsKey key.now }
-    ensures short { length line.new.bytes ≤ length line.old.bytes + (5 + longest_key) }
+    ensures known { AreLengths key.now }
+    ensures short { length line.new.bytes ≤ length line.old.bytes + labelled (codes " key=") longest_key }
 {
     line.push_str(" key=");
     line.push_str(put_key(key).as_str());
@@ -196,9 +201,9 @@ fn put_mask(line: &mut Line, key: &Mask)
 
 /// Appends the attribute, with its label.
 fn put_attr(line: &mut Line, attr: Attr)
-    requires { length line.old.bytes + 13 ≤ 512 }
+    requires { length line.old.bytes + labelled (codes " attr=") longest_attr ≤ 512 }
     ensures text { line.new.bytes ≡ line.old.bytes ++ (codes " attr=" ++ attr_word attr) }
-    ensures short { length line.new.bytes ≤ length line.old.bytes + 13 }
+    ensures short { length line.new.bytes ≤ length line.old.bytes + labelled (codes " attr=") longest_attr }
 {
     line.push_str(" attr=");
     line.push_str(attr_word(attr));
@@ -221,16 +226,7 @@ fn put_filter(line: &mut Line, filter: &Filter)
     ensures known { IsFilter filter.now }
     ensures short { length line.new.bytes ≤ length line.old.bytes + longest_filter }
 {
-    // read for what its bytes are known to be
-    let _value = bytes_of(&filter.value().0);
     line.push_str(filter.put().as_str());
-}
-
-/// The bytes of a vector.
-fn bytes_of(bytes: &[u8; KEY_BYTES]) -> &[u8]
-    ensures { IsVector bytes.now }
-{
-    bytes.as_slice()
 }
 
 #[cfg(test)]

@@ -2,7 +2,7 @@
 ghost use Rattle.std.specs.Prelude.{◌≡◌, ◌≤◌, IsTrue, IfSome, length};
 ghost use Rattle.std.specs.Option.{option_copied};
 ghost use Rattle.sketch_defs.specs.Tasks.{allows, allows_rows};
-ghost use Rattle.task_lang.specs.Words.{verb_word, verb_named, kind_word, kind_named, attr_word, attr_named, full_number, rows_in, attr_in, after_label};
+ghost use Rattle.task_lang.specs.Words.{verb_word, verb_named, longest_verb, kind_word, kind_named, longest_kind, attr_word, attr_named, longest_attr, full_number, rows_in, attr_in, after_label};
 
 use crate::commands::Verb;
 use key_mask::number_of;
@@ -47,7 +47,7 @@ const ATTRS: [Attr; 5] = [
 /// The first word of the command.
 pub(crate) fn verb_word(verb: Verb) -> &'static str
     ensures text { result.now ≡ verb_word verb }
-    ensures short { length result.now ≤ 7 }
+    ensures short { length result.now ≤ longest_verb }
 {
     match verb {
         Verb::Add => "add",
@@ -69,7 +69,7 @@ pub(crate) fn verb_word(verb: Verb) -> &'static str
 /// The name of the kind.
 pub(crate) fn kind_word(kind: Kind) -> &'static str
     ensures text { result.now ≡ kind_word kind }
-    ensures short { length result.now ≤ 9 }
+    ensures short { length result.now ≤ longest_kind }
 {
     match kind {
         Kind::Cms => "cms",
@@ -86,7 +86,7 @@ pub(crate) fn kind_word(kind: Kind) -> &'static str
 /// The name of the attribute.
 pub(crate) fn attr_word(attr: Attr) -> &'static str
     ensures text { result.now ≡ attr_word attr }
-    ensures short { length result.now ≤ 7 }
+    ensures short { length result.now ≤ longest_attr }
 {
     match attr {
         Attr::Packets => "packets",
@@ -140,12 +140,12 @@ pub(crate) fn attr_for(kind: Kind, word: &[u8]) -> Option<Attr>
 }
 
 /// The number of rows, where the kind allows it.
-#[tactic(auto, using(std::proofs::lemmas::Bool::Decides::nat_tests), unfolding(crate::specs::Words::rows_in))]
+#[tactic(auto, unfolding(crate::specs::Words::rows_in))]
 pub(crate) fn rows_for(kind: Kind, word: &[u8]) -> Option<u32>
     ensures value { result ≡ rows_in kind word.now }
     ensures allowed { IfSome result (λ rows. IsTrue (allows_rows kind rows)) }
 {
-    full_number_of(word).filter(|rows| 1 <= *rows && *rows <= kind.most_rows())
+    full_number_of(word).filter(|rows| kind.allows_rows(*rows))
 }
 
 /// A number of 32 bits in one to ten digits.

@@ -1,7 +1,8 @@
 use Rattle.std.proofs.Common.{◌≡◌, ◌+◌, length, sym, ap, ◌∙◌, arith, rules, Vec, Err}
 use Rattle.std.specs.declared.alloc.Global.{Global}
 use Rattle.std.specs.Option.{option_copied}
-use Rattle.texts.specs.Cuts.{left_behind, parts, parts_behind}
+use Rattle.texts.specs.Cuts.{left_behind, parts}
+use Rattle.texts.proofs.CutLemmas.{parts_behind}
 use Rattle.task_lang.specs.declared.commands.Command.{Command}
 use Rattle.task_lang.specs.declared.commands.ParseFail.{ParseFail}
 use Rattle.task_lang.specs.Script.{with_front, script_from}

@@ -1,6 +1,7 @@
 use Rattle.std.proofs.Common.{◌≡◌, ◌+◌, ◌≤◌, length}
 use Rattle.std.specs.Option.{option_copied}
-use Rattle.texts.specs.Cuts.{left_behind, parts, parts_behind}
+use Rattle.texts.specs.Cuts.{left_behind, parts}
+use Rattle.texts.proofs.CutLemmas.{parts_behind}
 use Rattle.task_lang.specs.Script.{with_front, script_from, script_limit}
 use Rattle.task_lang.proofs.script.lines_of.Given as goal
 
