@@ -1,5 +1,5 @@
 -- Eight bytes as one number.
-use Rattle.std.proofs.Common.{◌≡◌, ℕ, zero, suc, ◌+◌, ◌*◌, ◌/◌, ◌%◌, ◌^◌, ◌<◌, List, [], ◌∷◌, length, get_or, bit_and, bit_xor, refl, ap, ap₂, sym, ◌∙◌, arith}
+use Rattle.std.proofs.Common.{◌≡◌, ℕ, zero, suc, ◌/◌, ◌%◌, ◌^◌, ◌<◌, get_or, bit_and, refl, ap, sym, ◌∙◌, arith}
 use Rattle.std.specs.Int.{byte_at, from_le_bytes, to_le_bytes, w64}
 use Rattle.std.proofs.lemmas.Nat.{and_shr, and_mod, from_le_bytes-to_le_bytes_8}
 use Rattle.std.proofs.lemmas.List.{ext_get_or}

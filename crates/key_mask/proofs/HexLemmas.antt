@@ -1,29 +1,13 @@
 -- Four hexadecimal digits in lower case are what is printed of their number.
-use Rattle.std.proofs.Common.{◌≡◌, ◌≢◌, ℕ, zero, suc, ◌+◌, ◌*◌, ◌/◌, ◌%◌, ◌^◌, ◌<◌, ◌≤◌, ◌==◌, ◌&&◌, ◌||◌, Bool, true, false, not, cond, nat_lt, List, [], ◌∷◌, ◌++◌, length, map, slice_index, get_or, Option, None, Some, is_none, refl, ap, ap₂, sym, subst, ◌∙◌, arith, append-nil, replicate, length-append, inl, inr, ◌-◌, ◌⊎◌, ⊎_elim, eq-eqb, eqb-true}
+use Rattle.std.proofs.Common.{◌≡◌, ℕ, zero, suc, ◌+◌, ◌*◌, ◌/◌, ◌%◌, ◌<◌, ◌==◌, ◌&&◌, Bool, true, false, not, cond, nat_lt, List, [], ◌∷◌, length, slice_index, Option, None, Some, refl, ap, ◌∙◌, arith, eqb-true}
 use Rattle.std.specs.Char.{digit_char, digit_value, is_ascii_uppercase}
-use Rattle.std.specs.Fmt.{decimal}
-use Rattle.std.specs.Int.{bytes_high_first}
-use Rattle.std.specs.List.{fold, join_with_byte, list_all}
-use Rattle.std.proofs.Math.Nat.{mul-le-mul_right, pow-le-pow_right, pow-suc}
 use Rattle.std.proofs.lemmas.Option.{cond_some}
-use Rattle.std.proofs.lemmas.Bool.{and_parts, cases_Bool, cases_eq, cases_lt, false≢true, le-ltb, lt-ltb, ne_eqb}
+use Rattle.std.proofs.lemmas.Bool.{and_parts}
 use Rattle.std.proofs.lemmas.Bool.Decides.{nat_tests}
-use Rattle.std.proofs.lemmas.List.Splits.{join_with_byte-slice_split}
-use Rattle.std.proofs.lemmas.List.{length-replicate}
-use Rattle.texts.specs.Cuts.{front, back, parts}
-use Rattle.texts.proofs.CutLemmas.{parts_behind, parts_first, split_last, split_more}
-use Rattle.key_mask.specs.declared.fields.Field.{Field}
-use Rattle.key_mask.specs.declared.fields.Field.TheVariants.{SrcIp, DstIp, SrcPort, DstPort, Proto, Tos, EtherType, SrcIp6, DstIp6}
-use Rattle.key_mask.specs.Fields.{width_of}
-use Rattle.key_mask.specs.Ipv6.{double_from, eight_groups_at, eight_groups_in, full_in, group_in, group_text, groups_before, groups_value, hex_after, ipv6_in, ipv6_text}
-use Rattle.key_mask.specs.Ipv6Grammar.{AreGroups, IsFull, IsShort}
-use Rattle.key_mask.specs.Numbers.{◌>>=◌, address_in, has_hex_form, hex_digit_in, hex_in, is_dot, number_in}
-use Rattle.key_mask.specs.Spellings.{address_text, has_no_leading_zero, hex_text, is_canonical_group, is_canonical_value, is_lower_case, value_in, value_text}
-use Rattle.key_mask.proofs.Ipv6AgainLemmas.{AreSmall, count_back, group_all, small_back, texts_are}
-use Rattle.key_mask.proofs.Ipv6GrammarLemmas.{full_parts, no_double, no_others_are_addresses, parts_of_join, pieces, some_bind}
-use Rattle.key_mask.proofs.NumberLemmas.{decimal_lead, decimal_pass, digit_is, digit_pass, digits_pass, each_below, number_read, number_text}
-use Rattle.key_mask.proofs.ValueLemmas.{PassesAll, value_pass}
-use Rattle.key_mask.proofs.VectorLemmas.{AreBytes, bytes_back}
+use Rattle.key_mask.specs.Numbers.{◌>>=◌, has_hex_form, hex_digit_in, hex_in}
+use Rattle.key_mask.specs.Spellings.{hex_text, is_lower_case}
+use Rattle.key_mask.proofs.Ipv6GrammarLemmas.{some_bind}
+use Rattle.key_mask.proofs.NumberLemmas.{digit_is}
 
 abbrev pub is_lower : ℕ → Bool
 is_lower byte = not (is_ascii_uppercase byte)

@@ -2,11 +2,9 @@
 use Rattle.std.proofs.Common.{◌≡◌, ℕ, zero, suc, ◌+◌, ◌*◌, ◌/◌, ◌%◌, ◌^◌, ◌<◌, List, [], ◌∷◌, length, map, Bool, true, Some, refl, ap, ◌∙◌, arith, inl, inr}
 use Rattle.std.specs.List.{fold, join_with_byte}
 use Rattle.std.proofs.lemmas.Bool.{cases_lt, lt-ltb, le-ltb}
-use Rattle.std.proofs.lemmas.Bool.Decides.{nat_tests}
 use Rattle.std.specs.Char.{digit_char}
 use Rattle.std.specs.List.{list_all}
 use Rattle.std.proofs.lemmas.List.Folds.{list_all-append}
-use Rattle.key_mask.specs.Numbers.{hex_digit_in}
 use Rattle.key_mask.specs.Ipv6.{group_in, groups_value, ipv6_in, group_text, groups_before, ipv6_text}
 use Rattle.key_mask.proofs.NumberLemmas.{digit_again}
 use Rattle.key_mask.specs.Ipv6Grammar.{AreGroups, IsFull}

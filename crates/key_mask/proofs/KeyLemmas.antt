@@ -1,20 +1,20 @@
 -- Keys, printed and read.
-use Rattle.std.proofs.Common.{◌≡◌, ◌≢◌, ℕ, zero, suc, ◌+◌, ◌-◌, ◌^◌, ◌<◌, ◌≤◌, ◌==◌, ◌&&◌, Bool, true, false, not, cond, List, [], ◌∷◌, ◌++◌, length, take, replicate, get_or, set, slice_index, slice_set, Option, None, Some, ok_or, Result, Ok, Err, IfOk, IsTrue, refl, ap, sym, ◌∙◌, subst, arith, ⊎_elim, eq-eqb}
+use Rattle.std.proofs.Common.{◌≡◌, ◌≢◌, ℕ, zero, suc, ◌+◌, ◌<◌, ◌≤◌, ◌==◌, true, false, List, [], ◌∷◌, ◌++◌, length, replicate, get_or, set, slice_index, slice_set, None, Some, ok_or, Result, Ok, Err, IfOk, IsTrue, refl, ap, sym, ◌∙◌, subst, arith}
 use Rattle.std.specs.Fmt.{decimal}
 use Rattle.std.specs.List.{join_with_byte, list_all}
-use Rattle.std.proofs.lemmas.Bool.{cases_eq, false≢true, ne_eqb}
+use Rattle.std.proofs.lemmas.Bool.{ne_eqb}
 use Rattle.std.proofs.lemmas.Bool.Decides.{nat_tests}
-use Rattle.std.proofs.lemmas.List.{take_more, take_all, length-take-le, get_or-set_other, get_or-set_same, length-set}
+use Rattle.std.proofs.lemmas.List.{get_or-set_other, get_or-set_same, length-set}
 use Rattle.std.proofs.lemmas.List.Splits.{join_with_byte-slice_split}
 use Rattle.texts.specs.Cuts.{front, back, parts}
 use Rattle.key_mask.specs.declared.fields.Field.{Field}
 use Rattle.key_mask.specs.declared.fields.Field.TheVariants.{SrcIp, DstIp, SrcPort, DstPort, Proto, Tos, EtherType, SrcIp6, DstIp6}
 use Rattle.key_mask.specs.declared.items.FieldKind.{FieldKind}
-use Rattle.key_mask.specs.declared.items.FieldKind.TheVariants.{UnknownField, RepeatedField, BadPrefix}
+use Rattle.key_mask.specs.declared.items.FieldKind.TheVariants.{UnknownField, BadPrefix}
 use Rattle.key_mask.specs.declared.items.FieldFault.{FieldFault}
 use Rattle.key_mask.specs.Fields.{fields, field_number, width_of, is_length, name_of}
 use Rattle.key_mask.specs.Masks.{AreLengths, no_lengths}
-use Rattle.key_mask.specs.Items.{◌>>=◌, at_place, field_named, fresh_field, is_slash, item_text, item_texts, items_text, is_canonical_prefix, prefix_in, prefix_text, with_items}
+use Rattle.key_mask.specs.Items.{◌>>=◌, field_named, fresh_field, is_slash, item_text, item_texts, items_text, is_canonical_prefix, prefix_in, prefix_text, with_items}
 use Rattle.key_mask.specs.Keys.{is_canonical_key, is_key_item, key_in, key_text, with_item}
 use Rattle.key_mask.specs.Laws.{KeyAgain, OnlyKey}
 use Rattle.key_mask.proofs.OrderLemmas.{IsAdded, IsSpelled, item_at, items_at, named_is, only_items, printed_in_order}

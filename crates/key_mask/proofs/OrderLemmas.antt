@@ -1,18 +1,16 @@
 -- Items in canonical order are those that are printed.
-use Rattle.std.proofs.Common.{◌≡◌, ◌≢◌, ℕ, zero, suc, ◌+◌, ◌<◌, ◌≤◌, ◌==◌, ◌&&◌, Bool, true, false, nat_le, List, [], ◌∷◌, ◌++◌, length, slice_index, Option, None, Some, Result, Ok, Err, refl, ap, ap₂, sym, subst, ◌∙◌, arith, if◌then◌else◌, ⊎_elim, eq-eqb}
+use Rattle.std.proofs.Common.{◌≡◌, ◌≢◌, ℕ, suc, ◌+◌, ◌<◌, ◌≤◌, ◌==◌, ◌&&◌, Bool, true, false, nat_le, List, [], ◌∷◌, ◌++◌, length, slice_index, Option, Some, Result, Ok, refl, ap, sym, subst, ◌∙◌, arith, if◌then◌else◌, ⊎_elim, eq-eqb}
 use Rattle.std.specs.List.{flat_map, find}
-use Rattle.std.specs.Option.{option_map_or}
 use Rattle.std.specs.Str.{bytes_eq}
-use Rattle.std.proofs.lemmas.Bool.{cases_Bool, cases_eq, cases_lt, false≢true, ne_eqb}
+use Rattle.std.proofs.lemmas.Bool.{cases_Bool, cases_eq, false≢true, ne_eqb}
 use Rattle.std.proofs.lemmas.Bool.Decides.{nat_tests}
 use Rattle.std.proofs.lemmas.Slice.Eq.{bytes_eq-Decides}
 use Rattle.texts.specs.Cuts.{front}
 use Rattle.key_mask.specs.declared.fields.Field.{Field}
-use Rattle.key_mask.specs.declared.fields.Field.TheVariants.{SrcIp, DstIp, SrcPort, DstPort, Proto, Tos, EtherType, SrcIp6, DstIp6}
 use Rattle.key_mask.specs.declared.items.FieldKind.{FieldKind}
 use Rattle.key_mask.specs.declared.items.FieldFault.{FieldFault}
 use Rattle.key_mask.specs.Fields.{fields, field_number, name_of}
-use Rattle.key_mask.specs.Items.{◌>>=◌, are_in_order, at_place, field_named, item_text, item_texts, with_items}
+use Rattle.key_mask.specs.Items.{are_in_order, field_named, item_text, item_texts, with_items}
 use Rattle.key_mask.proofs.ItemLemmas.{place_bind}
 use Rattle.key_mask.proofs.PartLemmas.{number_below, same_field}
 

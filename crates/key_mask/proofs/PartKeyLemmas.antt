@@ -1,19 +1,18 @@
 -- The texts that are read as keys are those that spell the parts of a mask.
-use Rattle.std.proofs.Common.{◌≡◌, ◌≢◌, ℕ, zero, suc, ◌+◌, ◌<◌, ◌==◌, Bool, true, false, cond, not, List, [], ◌∷◌, ◌++◌, length, get_or, set, slice_index, Option, None, Some, Result, Ok, IsTrue, refl, ap, sym, subst, ◌∙◌, arith, append-nil, append_assoc, length-append, ⊎_elim, eq-eqb, eqb-true}
-use Rattle.std.specs.List.{join_with_byte, list_all}
-use Rattle.std.proofs.lemmas.Bool.{cases_eq, false≢true}
+use Rattle.std.proofs.Common.{◌≡◌, ◌≢◌, ℕ, zero, suc, ◌+◌, ◌<◌, ◌==◌, true, false, List, [], ◌∷◌, ◌++◌, length, get_or, set, slice_index, Option, None, Some, Result, Ok, refl, ap, sym, subst, ◌∙◌, arith, append-nil, append_assoc, length-append, ⊎_elim, eqb-true}
+use Rattle.std.specs.List.{list_all}
+use Rattle.std.proofs.lemmas.Bool.{cases_eq}
 use Rattle.std.proofs.lemmas.Bool.Decides.{nat_tests}
-use Rattle.std.proofs.lemmas.List.Folds.{list_all-append}
 use Rattle.std.proofs.lemmas.List.Splits.{join_with_byte-slice_split}
 use Rattle.texts.specs.Cuts.{front, back, parts}
 use Rattle.texts.proofs.CutLemmas.{parts_first}
 use Rattle.key_mask.specs.declared.fields.Field.{Field}
 use Rattle.key_mask.specs.declared.fields.Field.TheVariants.{SrcIp, DstIp, SrcPort, DstPort, Proto, Tos, EtherType, SrcIp6, DstIp6}
 use Rattle.key_mask.specs.declared.items.FieldFault.{FieldFault}
-use Rattle.key_mask.specs.Fields.{field_number, is_length, name_of}
-use Rattle.key_mask.specs.Items.{field_named, is_slash, prefix_in, with_items}
+use Rattle.key_mask.specs.Fields.{field_number, name_of}
+use Rattle.key_mask.specs.Items.{is_slash, with_items}
 use Rattle.key_mask.specs.Keys.{key_in, with_item}
-use Rattle.key_mask.specs.Laws.{AreSpelled, IsKeyOf, KeysAreRead, NoOthersAreKeys, Spells, tail_of}
+use Rattle.key_mask.specs.Laws.{AreSpelled, KeysAreRead, NoOthersAreKeys, Spells, tail_of}
 use Rattle.key_mask.specs.Masks.{AreParts, length_in, lengths_of, no_lengths}
 use Rattle.key_mask.proofs.ItemLemmas.{place_bind}
 use Rattle.key_mask.proofs.KeyLemmas.{item_is_read}

@@ -1,9 +1,7 @@
 -- What is printed of items, and how it is cut again.
-use Rattle.std.proofs.Common.{◌≡◌, ◌≢◌, ℕ, zero, suc, ◌+◌, ◌^◌, ◌<◌, ◌≤◌, ◌==◌, ◌&&◌, Bool, true, false, not, cond, List, [], ◌∷◌, ◌++◌, length, take, get_or, slice_index, Option, None, Some, is_some, IsTrue, refl, ap, sym, ◌∙◌, arith, append_assoc, length-append, ⊎_elim, eq-eqb}
+use Rattle.std.proofs.Common.{◌≡◌, ◌≢◌, ℕ, ◌+◌, ◌<◌, ◌≤◌, ◌==◌, ◌&&◌, Bool, true, false, not, cond, List, [], ◌∷◌, ◌++◌, length, take, get_or, slice_index, Option, None, Some, refl, ap, ◌∙◌, arith, append_assoc, length-append, ⊎_elim, eq-eqb}
 use Rattle.std.specs.List.{fold, join_with_byte, list_all, sum_by}
-use Rattle.std.specs.Fmt.{decimal}
 use Rattle.std.proofs.lemmas.Bool.{cases_eq, false≢true, ne_eqb}
-use Rattle.std.proofs.lemmas.Bool.Decides.{nat_tests}
 use Rattle.std.proofs.lemmas.List.Sums.{sum_by_more_le}
 use Rattle.texts.specs.Cuts.{front, back, parts}
 use Rattle.texts.proofs.CutLemmas.{split_last, split_more}

@@ -1,8 +1,7 @@
 -- The values of fields, printed and read.
-use Rattle.std.proofs.Common.{◌≡◌, ℕ, suc, ◌+◌, ◌*◌, ◌/◌, ◌%◌, ◌^◌, ◌<◌, ◌≤◌, ◌==◌, ◌&&◌, Bool, true, false, not, cond, List, [], ◌∷◌, ◌++◌, length, Some, None, refl, ap, sym, ◌∙◌, arith}
+use Rattle.std.proofs.Common.{◌≡◌, ℕ, ◌+◌, ◌*◌, ◌/◌, ◌%◌, ◌^◌, ◌<◌, ◌≤◌, ◌==◌, ◌&&◌, Bool, true, false, not, cond, List, [], ◌∷◌, ◌++◌, Some, refl, ap, ◌∙◌, arith}
 use Rattle.std.specs.Char.{digit_char}
 use Rattle.std.specs.Fmt.{decimal}
-use Rattle.std.specs.Int.{bytes_high_first}
 use Rattle.std.specs.List.{list_all}
 use Rattle.std.proofs.lemmas.Bool.{false≢true}
 use Rattle.std.proofs.lemmas.Bool.Decides.{nat_tests}
@@ -10,14 +9,12 @@ use Rattle.std.proofs.lemmas.List.Folds.{list_all-append}
 use Rattle.texts.specs.Cuts.{front, back}
 use Rattle.key_mask.specs.declared.fields.Field.{Field}
 use Rattle.key_mask.specs.declared.fields.Field.TheVariants.{SrcIp, DstIp, SrcPort, DstPort, Proto, Tos, EtherType, SrcIp6, DstIp6}
-use Rattle.key_mask.specs.declared.fields.ValueKind.{ValueKind}
-use Rattle.key_mask.specs.declared.fields.ValueKind.TheVariants.{Ipv4, Port, Byte, Hex, Ipv6}
 use Rattle.key_mask.specs.Fields.{width_of}
 use Rattle.key_mask.specs.Numbers.{address_in, hex_in, is_dot, number_in}
-use Rattle.key_mask.specs.Spellings.{address_text, hex_text, kind_text, kind_value_in, value_in, value_text}
+use Rattle.key_mask.specs.Spellings.{address_text, hex_text, value_in, value_text}
 use Rattle.key_mask.proofs.Ipv6AgainLemmas.{ipv6_again, ipv6_all}
-use Rattle.key_mask.proofs.NumberLemmas.{decimal_pass, digit_again, digit_pass, number_again}
-use Rattle.key_mask.proofs.VectorLemmas.{byte_is, value_back}
+use Rattle.key_mask.proofs.NumberLemmas.{decimal_pass, digit_again, number_again}
+use Rattle.key_mask.proofs.VectorLemmas.{value_back}
 
 cut_dot : (xs ys : List ℕ) → list_all (λ c. not (is_dot c)) xs ≡ true → (front is_dot (xs ++ 46 ∷ ys) ≡ xs) × (back is_dot (xs ++ 46 ∷ ys) ≡ Some ys)
 cut_dot [] ys e = (refl, refl)

@@ -1,5 +1,5 @@
 -- The values of a field in texts: how they are read, and the one canonical spelling of each.
-use Rattle.std.specs.Prelude.{◌≡◌, ℕ, ◌/◌, ◌%◌, ◌==◌, ◌&&◌, ◌||◌, Bool, true, not, nat_le, List, [], ◌∷◌, length, map, codes, slice_index, IsTrue, Option, None, Some, is_none}
+use Rattle.std.specs.Prelude.{ℕ, ◌/◌, ◌%◌, ◌==◌, ◌&&◌, ◌||◌, Bool, not, List, [], ◌∷◌, length, map, slice_index, Option, is_none}
 use Rattle.std.specs.Char.{digit_char, is_ascii_uppercase}
 use Rattle.std.specs.Fmt.{decimal}
 use Rattle.std.specs.Int.{bytes_high_first}

@@ -1,5 +1,5 @@
 -- What is printed of a filter is read as that filter.
-use Rattle.std.proofs.Common.{◌≡◌, ◌≢◌, ℕ, zero, suc, ◌+◌, ◌-◌, ◌^◌, ◌<◌, ◌≤◌, ◌==◌, ◌&&◌, Bool, true, false, not, cond, List, [], ◌∷◌, ◌++◌, length, codes, take, drop, replicate, slice_index, slice_set, slice_range, get_or, Option, None, Some, Result, Ok, IsTrue, refl, ap, sym, subst, ◌∙◌, arith, ⊎_elim, eq-eqb}
+use Rattle.std.proofs.Common.{◌≡◌, ◌≢◌, ℕ, zero, suc, ◌+◌, ◌-◌, ◌^◌, ◌<◌, ◌≤◌, ◌==◌, true, false, not, List, [], ◌∷◌, ◌++◌, length, codes, take, drop, replicate, slice_index, slice_set, get_or, Option, Some, Ok, IsTrue, refl, ap, sym, subst, ◌∙◌, arith, ⊎_elim, eq-eqb}
 use Rattle.std.specs.Fmt.{decimal}
 use Rattle.std.specs.Int.{bytes_high_first}
 use Rattle.std.specs.List.{join_with_byte, list_all, sum_by}
@@ -11,11 +11,10 @@ use Rattle.std.proofs.lemmas.Slice.Eq.{bytes_eq-Decides}
 use Rattle.texts.specs.Cuts.{front, back, parts}
 use Rattle.key_mask.specs.declared.fields.Field.{Field}
 use Rattle.key_mask.specs.declared.fields.Field.TheVariants.{SrcIp, DstIp, SrcPort, DstPort, Proto, Tos, EtherType, SrcIp6, DstIp6}
-use Rattle.key_mask.specs.declared.items.FieldFault.{FieldFault}
 use Rattle.key_mask.specs.Bytes.{and_bytes}
 use Rattle.key_mask.specs.Fields.{fields, field_number, is_length, name_of, size_of, start_of, width_of}
 use Rattle.key_mask.specs.Items.{◌>>=◌, is_slash, item_text, item_texts, items_text, prefix_text, with_items}
-use Rattle.key_mask.specs.Masks.{AreLengths, mask_bytes_of, no_lengths}
+use Rattle.key_mask.specs.Masks.{mask_bytes_of, no_lengths}
 use Rattle.key_mask.specs.Spellings.{value_text}
 use Rattle.key_mask.specs.Vectors.{bytes_at, value_at, with_value}
 use Rattle.key_mask.proofs.ItemLemmas.{AreSteps, IsStep, items_again}
@@ -28,7 +27,7 @@ use Rattle.key_mask.proofs.VectorLemmas.{bytes_back}
 use Rattle.task_filters.specs.Filters.{Pattern, IsFilter}
 use Rattle.task_filters.specs.Laws.{FilterAgain}
 use Rattle.task_filters.specs.Printing.{filter_text}
-use Rattle.task_filters.specs.Terms.{filter_in, is_colon, kept_terms, no_terms, terms_in, with_both, with_term}
+use Rattle.task_filters.specs.Terms.{is_colon, kept_terms, no_terms, terms_in, with_both, with_term}
 use Rattle.task_filters.proofs.ByteLemmas.{and_zeros, field_absent, field_small, length-bytes_at, value_fits, value_small}
 
 -- ---- an item is read as what it was printed of

@@ -1,7 +1,7 @@
 -- The bytes of a filter's value, and those of its fields.
-use Rattle.std.proofs.Common.{◌≡◌, ℕ, zero, suc, ◌+◌, ◌-◌, ◌*◌, ◌/◌, ◌^◌, ◌<◌, ◌≤◌, Bool, true, false, ◌&&◌, nat_lt, List, [], ◌∷◌, ◌++◌, length, map, take, drop, replicate, slice_index, slice_range, get_or, min, bit_and, refl, ap, sym, ◌∙◌, arith, subst}
+use Rattle.std.proofs.Common.{◌≡◌, ℕ, zero, suc, ◌+◌, ◌-◌, ◌*◌, ◌/◌, ◌^◌, ◌<◌, ◌≤◌, Bool, true, false, ◌&&◌, nat_lt, List, [], ◌∷◌, length, map, take, drop, replicate, slice_index, get_or, min, bit_and, refl, ap, sym, ◌∙◌, arith, subst}
 use Rattle.std.specs.Int.Bits.{and_zero_r}
-use Rattle.std.specs.List.{All, flat_map, list_all, range_with_len}
+use Rattle.std.specs.List.{flat_map, list_all, range_with_len}
 use Rattle.std.proofs.lemmas.Bool.{false≢true}
 use Rattle.std.proofs.lemmas.Bool.Decides.{nat_tests}
 use Rattle.std.proofs.lemmas.List.{get_or_default, length-take, length-drop}
@@ -15,7 +15,7 @@ use Rattle.key_mask.specs.Masks.{field_bytes, mask_bytes_of, prefix_byte, prefix
 use Rattle.key_mask.specs.Vectors.{big_endian, bytes_at, value_at}
 use Rattle.key_mask.proofs.BytesLemmas.{get_or-and_bytes}
 use Rattle.key_mask.proofs.NumberLemmas.{each_below}
-use Rattle.key_mask.proofs.VectorLemmas.{AreBytes, big_endian_small, bytes_back}
+use Rattle.key_mask.proofs.VectorLemmas.{AreBytes, big_endian_small}
 use Rattle.task_filters.specs.Filters.{Pattern, IsFilter, IsKept, IsVector}
 
 -- ---- the bytes of a value under a mask are bytes

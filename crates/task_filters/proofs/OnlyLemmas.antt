@@ -1,10 +1,10 @@
 -- What is printed of a filter is canonical, and no other canonical text is read as that filter.
-use Rattle.std.proofs.Common.{◌≡◌, ◌≢◌, ℕ, zero, suc, ◌+◌, ◌-◌, ◌^◌, ◌<◌, ◌≤◌, ◌==◌, ◌&&◌, ◌||◌, Bool, true, false, not, cond, nat_le, List, [], ◌∷◌, ◌++◌, length, codes, take, drop, slice_index, slice_set, get_or, Option, None, Some, ok_or, Result, Ok, Err, IsTrue, refl, ap, sym, subst, ◌∙◌, arith, append_assoc, length-append, ⊎_elim, ◌⊎◌, inl, inr, eq-eqb, eqb-true}
+use Rattle.std.proofs.Common.{◌≡◌, ◌≢◌, ℕ, zero, suc, ◌+◌, ◌-◌, ◌^◌, ◌<◌, ◌≤◌, ◌==◌, ◌&&◌, ◌||◌, Bool, true, false, not, nat_le, List, [], ◌∷◌, ◌++◌, length, codes, take, drop, slice_index, slice_set, get_or, Option, None, Some, ok_or, Result, Ok, Err, refl, ap, sym, subst, ◌∙◌, arith, length-append, ⊎_elim, ◌⊎◌, inl, inr, eq-eqb}
 use Rattle.std.specs.Fmt.{decimal}
 use Rattle.std.specs.Int.{bytes_high_first}
-use Rattle.std.specs.List.{flat_map, join_with_byte, list_all}
+use Rattle.std.specs.List.{join_with_byte, list_all}
 use Rattle.std.specs.Str.{bytes_eq}
-use Rattle.std.proofs.lemmas.Bool.{and_parts, cases_Bool, cases_eq, cases_lt, false≢true, ne_eqb}
+use Rattle.std.proofs.lemmas.Bool.{and_parts, cases_Bool, cases_eq, false≢true, ne_eqb}
 use Rattle.std.proofs.lemmas.Bool.Decides.{nat_tests}
 use Rattle.std.proofs.lemmas.List.{drop-drop, get_or-set_other, get_or-set_same, length-drop, length-set, length-take}
 use Rattle.std.proofs.lemmas.List.Splits.{join_with_byte-slice_split}
@@ -29,7 +29,6 @@ use Rattle.key_mask.proofs.OrderLemmas.{IsAdded, IsSpelled, item_at, items_at, n
 use Rattle.key_mask.proofs.PartLemmas.{at_number, number_below}
 use Rattle.key_mask.proofs.PrefixLemmas.{prefix_again, prefix_canonical, prefix_some}
 use Rattle.key_mask.proofs.PrintLemmas.{cut_slash, item_joined, items_plain, name_found, parts_joined}
-use Rattle.key_mask.specs.Laws.{tail_of}
 use Rattle.key_mask.proofs.SpellingLemmas.{value_canonical}
 use Rattle.key_mask.proofs.SpellingLemmas
 use Rattle.key_mask.proofs.PrefixLemmas
@@ -39,7 +38,7 @@ use Rattle.key_mask.proofs.VectorLemmas.{bytes_back, length-bytes_high_first, va
 use Rattle.task_filters.specs.Filters.{Pattern, IsFilter}
 use Rattle.task_filters.specs.Laws.{OnlyFilter}
 use Rattle.task_filters.specs.Printing.{filter_text}
-use Rattle.task_filters.specs.Terms.{filter_in, is_canonical_filter, is_canonical_rest, is_colon, is_cut, is_filter_item, kept_terms, no_terms, slash_behind, terms_in, value_behind, with_both, with_term}
+use Rattle.task_filters.specs.Terms.{is_canonical_filter, is_canonical_rest, is_colon, is_cut, is_filter_item, kept_terms, no_terms, slash_behind, terms_in, value_behind, with_both, with_term}
 use Rattle.task_filters.proofs.AgainLemmas.{cut_colon, not_all, reads_all, some_terms, term_plain, text_empty, text_items}
 use Rattle.task_filters.proofs.ByteLemmas.{bytes_at-and_bytes, field_kept, field_small, length-bytes_at, mask_at, value_fits}
 

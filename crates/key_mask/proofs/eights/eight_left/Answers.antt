@@ -1,4 +1,4 @@
-use Rattle.std.proofs.Common.{◌≡◌, ℕ, ◌+◌, ◌-◌, ◌*◌, ◌/◌, ◌%◌, ◌<◌, List, length, get_or, bit_and, bit_xor, ap, ap₂, sym, ◌∙◌, arith, ⊎_elim}
+use Rattle.std.proofs.Common.{ℕ, ◌+◌, get_or, bit_and, ap, ap₂, sym, ◌∙◌}
 use Rattle.key_mask.proofs.BytesLemmas.{get_or-and_bytes}
 use Rattle.key_mask.proofs.EightLemmas.{byte_of_eight, byte_at_and}
 use Rattle.key_mask.proofs.eights.eight_left.Goals as goal

@@ -1,10 +1,10 @@
-use Rattle.std.proofs.Common.{[], ap, ◌∙◌, slice_index, is_some, arith}
+use Rattle.std.proofs.Common.{[], ap, ◌∙◌, slice_index}
 use Rattle.std.specs.List.{fold}
 use Rattle.std.specs.Option.{option_copied}
 use Rattle.std.proofs.lemmas.List.{take_all}
 use Rattle.key_mask.specs.Fields.{fields, field_number}
 use Rattle.key_mask.specs.Items.{with_field}
-use Rattle.key_mask.proofs.PrintLemmas.{line_of_fields, one_fits}
+use Rattle.key_mask.proofs.PrintLemmas.{line_of_fields}
 use Rattle.key_mask.proofs.printing.put_items.Goals as goal
 
 pub returns-clause-text : goal.returns-clause-text

@@ -1,4 +1,4 @@
-use Rattle.std.proofs.Common.{◌≡◌, sym, ap, length, ◌∙◌, rules, arith}
+use Rattle.std.proofs.Common.{sym, ap, length, ◌∙◌, rules, arith}
 use Rattle.key_mask.proofs.PrefixLemmas.{prefix_short}
 use Rattle.key_mask.proofs.printing.put_prefix.Goals as goal
 

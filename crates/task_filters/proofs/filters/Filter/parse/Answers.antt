@@ -1,5 +1,3 @@
-use Rattle.std.proofs.Common.{rules, sym, ap, ◌∙◌}
-use Rattle.key_mask.specs.Bytes.{and_bytes}
 use Rattle.key_mask.specs.Masks.{mask_bytes_of}
 use Rattle.key_mask.proofs.BytesLemmas.{and_bytes_twice}
 use Rattle.task_filters.proofs.filters.Filter.parse.Goals as goal

@@ -1,6 +1,5 @@
-use Rattle.std.proofs.Common.{◌≡◌, Ok, Some, ◌++◌, IsTrue, ap, sym, ◌∙◌, codes, refl}
+use Rattle.std.proofs.Common.{◌≡◌, Ok, ◌++◌, ap, sym, ◌∙◌, codes, refl}
 use Rattle.std.proofs.lemmas.Bool.{false≢true}
-use Rattle.key_mask.specs.Items.{items_text}
 use Rattle.task_filters.specs.Filters.{Pattern}
 use Rattle.task_filters.specs.Printing.{filter_text}
 use Rattle.task_filters.specs.Terms.{filter_in, is_canonical_filter}

@@ -1,4 +1,3 @@
-use Rattle.std.proofs.Common.{rules}
 use Rattle.task_filters.proofs.ByteLemmas.{is_vector}
 use Rattle.task_filters.proofs.filters.Filter.value.Goals as goal
 
