@@ -18,9 +18,9 @@ use Rattle.flymon_engine.specs.declared.stop.Stop.TheVariants as stops
 use Rattle.flymon_engine.specs.Endings.{status_of}
 use Rattle.flymon_engine.specs.Words.{Form}
 use Rattle.flymon_engine.specs.Cells.{AreCells}
-use Rattle.key_mask.specs.declared.keys.FieldFault.{FieldFault}
-use Rattle.key_mask.specs.declared.keys.FieldKind.{FieldKind}
-use Rattle.key_mask.specs.declared.keys.FieldKind.TheVariants.{UnknownField, RepeatedField, BadPrefix, BadValue}
+use Rattle.key_mask.specs.declared.items.FieldFault.{FieldFault}
+use Rattle.key_mask.specs.declared.items.FieldKind.{FieldKind}
+use Rattle.key_mask.specs.declared.items.FieldKind.TheVariants.{UnknownField, RepeatedField, BadPrefix, BadValue}
 use Rattle.task_lang.specs.declared.commands.LineFault.{LineFault}
 use Rattle.task_lang.specs.declared.commands.LineFault.TheVariants as lines
 use Rattle.task_lang.specs.declared.commands.ScriptFault.{ScriptFault}

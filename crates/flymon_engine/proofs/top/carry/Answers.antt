@@ -1,5 +1,6 @@
-use Rattle.std.proofs.Common.{◌≡◌, ◌∙◌, ℕ, List, Some, drop, arith}
+use Rattle.std.proofs.Common.{◌≡◌, ◌∙◌, ap, ℕ, List, Some, drop, arith}
 use Rattle.outside.specs.Faults.{Rose}
+use Rattle.addr_translate.specs.Geometry.{array_count, greatest_bits}
 use Rattle.outside.proofs.ToldLemmas.{stays_same}
 use Rattle.outside.proofs.SentLemmas.{none_in_part}
 use Rattle.hash_units.specs.Keys.{standard_key}
@@ -29,7 +30,8 @@ returns-in-Err-Device-clause-calls g c =
 
 pub carry_all-carried-requires-clause-shaped : goal.carry_all-carried-requires-clause-shaped
 carry_all-carried-requires-clause-shaped g c =
-    shaped_geometry (g.R.RegFile.dims c.shape.new.self) c.arrays.result c.greatest_bits-2.result c.in-Ok-shape.ensures.dims c.arrays.ensures.value c.greatest_bits-2.ensures.value
+    shaped_geometry (g.R.RegFile.dims c.shape.new.self) c.arrays.result c.greatest_bits-2.result c.in-Ok-shape.ensures.dims
+    (c.arrays.ensures.value ∙ ap array_count c.default_shape-shape.ensures) (c.greatest_bits-2.ensures.value ∙ ap greatest_bits c.default_shape-shape.ensures)
 
 pub returns-clause-verdict : goal.returns-clause-verdict
 returns-clause-verdict g c =
