@@ -73,6 +73,36 @@ fn counts_any_frame(rt: HostRuntime) -> Result<(), Fail> {
     Ok(())
 }
 
+/// The record of a TCP packet from 2001:db8::1 to 2001:db8::2, 74 bytes.
+const IPV6_RECORD: &[u8; 90] = b"\x00\x00\x00\x00\x00\x00\x00\x00\x4a\x00\x00\x00\x4a\x00\x00\x00\
+\x02\x00\x00\x00\x00\x02\x02\x00\x00\x00\x00\x01\x86\xdd\
+\x60\x00\x00\x00\x00\x14\x06\x40\
+\x20\x01\x0d\xb8\x00\x00\x00\x00\x00\x00\x00\x00\x00\x00\x00\x01\
+\x20\x01\x0d\xb8\x00\x00\x00\x00\x00\x00\x00\x00\x00\x00\x00\x02\
+\x04\x00\x00\x50\x00\x00\x00\x00\x00\x00\x00\x00\x50\x02\x00\x00\x00\x00\x00\x00";
+
+/// A script that counts packets by their IPv6 source, behind a filter of a prefix.
+const IPV6_SCRIPT: &[u8] =
+    b"add six cms 1 key=src_ip6 attr=packets filter=src_ip6:2001:db8::/32 memory=32\nrun\nread six\nquery six src_ip6:2001:DB8::1\n";
+
+#[test]
+fn counts_packets_by_ipv6_source(rt: HostRuntime) -> Result<(), Fail> {
+    let alloc = rt.alloc();
+    let mut capture = capture_of(alloc, &[1])?;
+    capture.extend_from_slice(IPV6_RECORD)?;
+    let files = session_files(alloc, IPV6_SCRIPT, capture)?;
+    let ending = run_over(alloc, WORDS, files, &mut RamFile::new(), LIMITS)?;
+    expect_ending(
+        &rt,
+        &"IPv6",
+        &ending,
+        Status::Done,
+        b"added six\npackets 2\nread six rows 1 size 32 start 0\ncell 0 8 1\nend\nquery six 1\n",
+        b"",
+    );
+    Ok(())
+}
+
 #[test]
 fn counts_no_packet(rt: HostRuntime) -> Result<(), Fail> {
     let alloc = rt.alloc();

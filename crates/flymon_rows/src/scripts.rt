@@ -6,7 +6,7 @@ use reg_file::RamFile;
 use std::test::Fail;
 
 /// Scripts, and what the message says of them.
-const FAULTS: [(&str, &str); 16] = [
+const FAULTS: [(&str, &str); 18] = [
     (
         "add hot cms 1 key=src_ip attr=packets filter=all memory=32\nrun\nrum\n",
         "3: command",
@@ -32,6 +32,8 @@ const FAULTS: [(&str, &str); 16] = [
         "1: key unknown field 0",
     ),
     ("query t src_ip:10.0.0.1,tos\n", "1: at bad value 16"),
+    ("query t src_ip6:1::2::3\n", "1: at bad value 0"),
+    ("query t src_ip6:1::/129\n", "1: at bad prefix 0"),
     ("# hot\n\nrun\x01\n", "3: byte"),
     ("run all\n", "1: words"),
     ("read Hot\n", "1: name"),
