@@ -78,7 +78,7 @@ pub takes_some : (reading after : Reading) (frame : Frame) (packet : Packet) (an
 unfolding packet_at
 takes_some reading after frame packet answer a b is made =
     subst (λ (found : Result (Option Record) CaptureFault). after ≡ moved reading found
-        → SlotMoves (GoesOn reading found) a b → SlotMoves (TakesNext reading after (Ok (Some packet))) a b) is
+    → SlotMoves (GoesOn reading found) a b → SlotMoves (TakesNext reading after (Ok (Some packet))) a b) is
     (λ left. slot_weaker a b (λ x y r. record {
       bytes = r.moves.bytes;
       answers = (ap (λ (p : Packet). Ok (Some p)) made ∙ ap packet_by (sym r.answers.0), left ∙ ap (moved reading) (sym r.answers.0));
@@ -89,7 +89,7 @@ pub takes_none : (reading after : Reading) (answer : Result (Option Record) Capt
     → SlotMoves (GoesOn reading answer) a b → SlotMoves (TakesNext reading after (Ok None)) a b
 takes_none reading after answer a b is =
     subst (λ (found : Result (Option Record) CaptureFault). after ≡ moved reading found
-        → SlotMoves (GoesOn reading found) a b → SlotMoves (TakesNext reading after (Ok None)) a b) is
+    → SlotMoves (GoesOn reading found) a b → SlotMoves (TakesNext reading after (Ok None)) a b) is
     (λ left. slot_weaker a b (λ x y r. record {
       bytes = r.moves.bytes;
       answers = (ap packet_by (sym r.answers.0), left ∙ ap (moved reading) (sym r.answers.0));

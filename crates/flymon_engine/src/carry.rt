@@ -13,9 +13,9 @@ ghost use Rattle.flymon_engine.specs.Steps.{matched, calls_on, calls_of, asked_f
 
 use crate::frames::Frames;
 use crate::lines::{line_added, line_packets, send};
+use crate::reading_out::read_out;
 use crate::stop::Halt;
 use crate::task::LiveTask;
-use crate::reading_out::read_out;
 use capture_read::CaptureFault;
 use fm_io::Sink;
 use pkt_headers::Packet;

@@ -85,10 +85,10 @@ never e = cc
 pub key_tested : (key : List ℕ) (test : Bool) → IsTrue test ↔ (key ≡ no_lengths) → is_no_key key ≡ test
 unfolding is_no_key
 key_tested key true exact = rw (exact.0 refl) (by (bytes_eq no_lengths no_lengths) refl) where
-      by : (b : Bool) → bytes_eq no_lengths no_lengths ≡ b → b ≡ true
-      by true e = refl
-      by false e = absurd (not_from_Decides (bytes_eq no_lengths no_lengths) (bytes_eq-Decides no_lengths no_lengths) e refl)
+  by : (b : Bool) → bytes_eq no_lengths no_lengths ≡ b → b ≡ true
+  by true e = refl
+  by false e = absurd (not_from_Decides (bytes_eq no_lengths no_lengths) (bytes_eq-Decides no_lengths no_lengths) e refl)
 key_tested key false exact = by (bytes_eq key no_lengths) refl where
-      by : (b : Bool) → bytes_eq key no_lengths ≡ b → b ≡ false
-      by true e = absurd (never (exact.1 ((bytes_eq-Decides key no_lengths).0 e)))
-      by false e = refl
+  by : (b : Bool) → bytes_eq key no_lengths ≡ b → b ≡ false
+  by true e = absurd (never (exact.1 ((bytes_eq-Decides key no_lengths).0 e)))
+  by false e = refl

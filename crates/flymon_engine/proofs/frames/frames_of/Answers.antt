@@ -76,19 +76,21 @@ returns-in-Ok-None g c = let f = g.F.Files in record {
 pub returns-then-is_failed_read : goal.returns-then-is_failed_read
 returns-then-is_failed_read g c = let f = g.F.Files in
     let is : c.in-Err.fault ≡ Read = c.is_failed_read.ensures.0 c.if-is_failed_read.true in record {
-  later = omega (arith, c.records.invariant.later, c.next_packet.ensures.later);
-  strays = c.next_packet.ensures.strays ∙ c.records.invariant.strays;
-  directory = directory_then (f.directory c.args.files.now) (f.directory c.records.files) (f.directory c.next_packet.new.files)
-      c.records.invariant.directory c.next_packet.ensures.directory;
-  others = others_then 2 (f.slots c.args.files.now) (f.slots c.records.files) (f.slots c.next_packet.new.files)
-      c.records.invariant.others c.next_packet.ensures.others;
-  slot = bytes_then c.records.capture c.next_packet.new.capture c.next_packet.result (f.slots c.args.files.now).capture
-      (f.slots c.records.files).capture (f.slots c.next_packet.new.files).capture c.records.invariant.slot c.next_packet.ensures.slot;
-  cause = (later_rose (f.faults c.args.files.now) (f.faults c.records.files) (f.faults c.next_packet.new.files) c.records.invariant.later (c.in-Err.ensures.read (ap (λ (e : CaptureFault). Err e) is)),
-      c.in-Err.ensures.last ∙ last_of_read (f.last c.records.files) c.in-Err.fault is);
-  stop = refl;
-  passage = tt;
-}
+      later = omega (arith, c.records.invariant.later, c.next_packet.ensures.later);
+      strays = c.next_packet.ensures.strays ∙ c.records.invariant.strays;
+      directory = directory_then (f.directory c.args.files.now) (f.directory c.records.files) (f.directory c.next_packet.new.files)
+          c.records.invariant.directory c.next_packet.ensures.directory;
+      others = others_then 2 (f.slots c.args.files.now) (f.slots c.records.files) (f.slots c.next_packet.new.files)
+          c.records.invariant.others c.next_packet.ensures.others;
+      slot = bytes_then c.records.capture c.next_packet.new.capture c.next_packet.result (f.slots c.args.files.now).capture
+          (f.slots c.records.files).capture (f.slots c.next_packet.new.files).capture c.records.invariant.slot c.next_packet.ensures.slot;
+      cause = (
+        later_rose (f.faults c.args.files.now) (f.faults c.records.files) (f.faults c.next_packet.new.files) c.records.invariant.later (c.in-Err.ensures.read (ap (λ (e : CaptureFault). Err e) is)),
+        c.in-Err.ensures.last ∙ last_of_read (f.last c.records.files) c.in-Err.fault is,
+      );
+      stop = refl;
+      passage = tt;
+    }
 
 pub returns-in-Err : goal.returns-in-Err
 returns-in-Err g c = let f = g.F.Files in record {
