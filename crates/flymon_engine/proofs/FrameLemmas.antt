@@ -20,13 +20,17 @@ use Rattle.capture_read.proofs.CaptureLemmas.{records_step}
 use Rattle.capture_read.proofs.NextLemmas.{next_in-full}
 use Rattle.pkt_headers.specs.declared.packets.Packet.{Packet}
 use Rattle.pkt_headers.specs.Packets.{packet_in}
-use Rattle.flymon_engine.specs.Frames.{Passage, packet_at, packet_by, passage_of, passage_behind, passage_by, passage_in, BytesStay, AnswersPacket, TakesNext}
+use Rattle.flymon_engine.specs.Frames.{Passage, packet_at, packet_by, passage_of, passage_by, passage_in, BytesStay, AnswersPacket, TakesNext}
 use Rattle.flymon_engine.specs.Opening.{IsReadStop}
 use Rattle.flymon_engine.specs.Expected.{ReadsAs}
 use Rattle.flymon_engine.specs.Views.{passage_view}
 use Rattle.flymon_engine.specs.declared.frames.Frames.{Frames}
 use Rattle.flymon_engine.specs.declared.stop.Stop.{Stop}
 use Rattle.flymon_engine.specs.declared.stop.Stop.TheVariants as stops
+
+-- these packets, and then what records give
+abbrev passage_behind : List Packet → Records → Passage
+passage_behind packets records = record { packets = packets ++ map packet_at records.list; fault = records.fault }
 
 behind_end : (packets : List Packet) (found : Result (Option Record) CaptureFault) (rest : Records)
     → packet_by found ≡ Ok None → passage_behind packets (before_rest found rest) ≡ record { packets = packets; fault = None }

@@ -32,39 +32,15 @@ use Rattle.sketch_lower.proofs.CellLemmas.{place_lt}
 use Rattle.sketch_lower.proofs.EntryLemmas.{lowered_operation}
 use Rattle.sketch_lower.proofs.RowLemmas.{cell_here, cell_elsewhere, bound_is_nothing}
 use Rattle.readout.specs.PlacedTasks.{IsShaped}
-use Rattle.flymon_engine.specs.Script.{Job, is_closed}
+use Rattle.flymon_engine.specs.Script.{Job, has_independent_rows}
 use Rattle.flymon_engine.specs.Cells.{AreCells, default_geometry}
 use Rattle.flymon_engine.specs.Carrying.{IsToldBefore}
-use Rattle.flymon_engine.specs.Live.{Touches, ArePassed, HoldStart}
+use Rattle.flymon_engine.specs.Live.{Touches, HoldStart}
 use Rattle.flymon_engine.specs.Steps.{call_on}
 
 -- ---- the task's rows
 
-most_four : (kind : Kind) → most_rows kind ≤ 4
-most_four Cms = omega arith
-most_four SumaxSum = omega arith
-most_four SumaxMax = omega arith
-most_four Bloom = omega arith
-most_four Mrac = omega arith
-most_four Hll = omega arith
-most_four FlagOr = omega arith
-most_four FlagAnd = omega arith
-
-allowed_few : (sketch : Sketch) → allows_rows sketch.kind sketch.rows ≡ true → sketch.rows ≤ 4
-allowed_few sketch e =
-    let most : most_rows sketch.kind ≤ 4 = most_four sketch.kind in
-    let low : sketch.rows ≤ most_rows sketch.kind = grind (arith, nat_tests) in
-    omega arith
-
-pub rows_few : (sketch : Sketch) → first_fault sketch ≡ None → sketch.rows ≤ 4
-rows_few sketch e =
-    allowed_few sketch
-    (elim (allows_rows sketch.kind sketch.rows) as (λ b. (if not b then Some faults.Rows else (if is_no_key sketch.key then Some faults.EmptyKey else (if not (allows sketch.kind sketch.attr) then Some faults.Attr else None))) ≡ None → b ≡ true) [
-      | true ↦ λ e. refl
-      | false ↦ λ e. cc
-    ] e)
-
-pub not_chained : (kind : Kind) → is_closed kind ≡ true → kind ≡ SumaxSum → ⊥
+pub not_chained : (kind : Kind) → has_independent_rows kind ≡ true → kind ≡ SumaxSum → ⊥
 not_chained SumaxSum e is = cc
 not_chained _ e is = cc
 
@@ -133,13 +109,18 @@ at_done done = grind (arith, nat_tests)
 at_more : (done : ℕ) → nat_lt done (done + 1) ≡ true
 at_more done = grind (arith, nat_tests)
 
-same_operation : (hash_key : List ℕ) (job : Job) (row : ℕ) (packet : Packet) (bound : ℕ) → is_closed job.task.kind ≡ true
+-- a packet passed the first rows, and the others hold the cells before it
+abbrev pub ArePassed : List ℕ → Job → List Packet → Packet → ℕ → Contents → Type 0
+ArePassed hash_key job counted_packets packet done registers = (row index : ℕ) → row < job.task.rows → index < 2 ^ job.bits
+    → registers row index ≡ slice_index (row_of (cells_of hash_key job.task job.bits (if nat_lt row done then counted_packets ++ packet ∷ [] else counted_packets)) row) index
+
+same_operation : (hash_key : List ℕ) (job : Job) (row : ℕ) (packet : Packet) (bound : ℕ) → has_independent_rows job.task.kind ≡ true
     → operation_at hash_key job.task job.bits row packet cell_max ≡ operation_at hash_key job.task job.bits row packet bound
 same_operation hash_key job row packet bound closed =
     bound_is_nothing job.task.kind (brought_by job.task.kind hash_key job.task job.bits row packet) cell_max bound (not_chained job.task.kind closed)
 
 row_touched : (hash_key : List ℕ) (job : Job) (counted_packets : List Packet) (packet : Packet) (row index : ℕ) (old new : Contents) → Touches hash_key job row packet old new
-    → job.bits ≤ 32 → is_closed job.task.kind ≡ true → row < job.task.rows
+    → job.bits ≤ 32 → has_independent_rows job.task.kind ≡ true → row < job.task.rows
     → ((i : ℕ) → i < 2 ^ job.bits → old row i ≡ slice_index (row_of (cells_of hash_key job.task job.bits counted_packets) row) i)
     → index < 2 ^ job.bits → new row index ≡ slice_index (row_of (cells_of hash_key job.task job.bits (counted_packets ++ packet ∷ [])) row) index
 row_touched hash_key job counted_packets packet row index old new call few closed inside cells small =
@@ -159,7 +140,7 @@ row_touched hash_key job counted_packets packet row index old new call few close
     (cases_eq index place)
 
 passed_more : (hash_key : List ℕ) (job : Job) (counted_packets : List Packet) (packet : Packet) (done : ℕ) (old new : Contents) → Touches hash_key job done packet old new
-    → job.bits ≤ 32 → is_closed job.task.kind ≡ true → done < job.task.rows
+    → job.bits ≤ 32 → has_independent_rows job.task.kind ≡ true → done < job.task.rows
     → ArePassed hash_key job counted_packets packet done old → ArePassed hash_key job counted_packets packet (done + 1) new
 passed_more hash_key job counted_packets packet done old new call few closed inside passed row index in_rows small =
     ⊎_elim
@@ -176,7 +157,7 @@ passed_more hash_key job counted_packets packet done old new call few closed ins
     (cases_eq row done)
 
 pub passed_told : (hash_key : List ℕ) (job : Job) (packet : Packet) (done : ℕ) (a b c : Option Contents) → Told (Touches hash_key job done packet) b c
-    → job.bits ≤ 32 → is_closed job.task.kind ≡ true → done < job.task.rows
+    → job.bits ≤ 32 → has_independent_rows job.task.kind ≡ true → done < job.task.rows
     → ((counted_packets : List Packet) → IfSome a (AreCells hash_key job counted_packets) → IfSome b (ArePassed hash_key job counted_packets packet done))
     → (counted_packets : List Packet) → IfSome a (AreCells hash_key job counted_packets) → IfSome c (ArePassed hash_key job counted_packets packet (done + 1))
 passed_told hash_key job packet done a b None call few closed inside before counted_packets cells = tt

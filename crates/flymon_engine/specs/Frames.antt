@@ -26,10 +26,6 @@ packet_by (Ok (Some found)) = Ok (Some (packet_at found))
 abbrev pub passage_of : Records → Passage
 passage_of records = record { packets = map packet_at records.list; fault = records.fault }
 
--- these packets, and then what records give
-abbrev pub passage_behind : List Packet → Records → Passage
-passage_behind packets records = record { packets = packets ++ map packet_at records.list; fault = records.fault }
-
 abbrev pub passage_by : Result Records CaptureFault → Result Passage CaptureFault
 passage_by (Ok records) = Ok (passage_of records)
 passage_by (Err fault) = Err fault

@@ -22,11 +22,6 @@ pub record Touches (hash_key : List ℕ) (job : Job) (row : ℕ) (packet : Packe
   pub answer : ℕ
   pub made : MakesCall row (index_at hash_key job.task job.bits row packet) (operation_at hash_key job.task job.bits row packet cell_max) answer old new
 
--- a packet passed the first rows, and the others hold the cells before it
-abbrev pub ArePassed : List ℕ → Job → List Packet → Packet → ℕ → Contents → Type 0
-ArePassed hash_key job counted_packets packet done registers = (row index : ℕ) → row < job.task.rows → index < 2 ^ job.bits
-    → registers row index ≡ slice_index (row_of (cells_of hash_key job.task job.bits (if nat_lt row done then counted_packets ++ packet ∷ [] else counted_packets)) row) index
-
 -- the first unit of a group with a row has the task's key, and every other unit is free
 abbrev pub mask_at : Job → ℕ → ℕ → Option (List ℕ)
 mask_at job group unit = if unit == 0 && nat_lt (arrays_before default_geometry group) job.task.rows then Some job.task.key else None

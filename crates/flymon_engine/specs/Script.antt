@@ -20,15 +20,15 @@ pub record Script : Type 0 where
   pub commands : List Command
 
 -- the kinds whose rows know nothing of one another
-abbrev pub is_closed : Kind → Bool
-is_closed kinds.Cms = true
-is_closed kinds.SumaxSum = false
-is_closed kinds.SumaxMax = true
-is_closed kinds.Bloom = true
-is_closed kinds.Mrac = true
-is_closed kinds.Hll = true
-is_closed kinds.FlagOr = true
-is_closed kinds.FlagAnd = true
+abbrev pub has_independent_rows : Kind → Bool
+has_independent_rows kinds.Cms = true
+has_independent_rows kinds.SumaxSum = false
+has_independent_rows kinds.SumaxMax = true
+has_independent_rows kinds.Bloom = true
+has_independent_rows kinds.Mrac = true
+has_independent_rows kinds.Hll = true
+has_independent_rows kinds.FlagOr = true
+has_independent_rows kinds.FlagAnd = true
 
 -- the bits of a partition of 32 to 1,024 registers
 unfoldable pub size_bits : ℕ → Option ℕ
@@ -75,7 +75,7 @@ added_in Stat = None
 
 -- the task with the bits of its partitions, where it is built
 unfoldable pub job_of : Sketch → Option Job
-job_of task = if is_closed task.kind then option_map (λ bits. record { task = task; bits = bits }) (size_bits task.size) else None
+job_of task = if has_independent_rows task.kind then option_map (λ bits. record { task = task; bits = bits }) (size_bits task.size) else None
 
 -- what valid commands ask for, where it is built
 abbrev pub built_in : List Command → Option Script

@@ -9,7 +9,7 @@ ghost use Rattle.readout.specs.PlacedTasks.{IsShaped};
 ghost use Rattle.sketch_defs.specs.Cells.{cell_max, key_hash, index_at};
 ghost use Rattle.sketch_lower.specs.Operations.{operation_at, start_of};
 ghost use Rattle.match_table.specs.Operations.{operation_by};
-ghost use Rattle.flymon_engine.specs.Script.{is_closed};
+ghost use Rattle.flymon_engine.specs.Script.{has_independent_rows};
 ghost use Rattle.flymon_engine.specs.Cells.{AreCells, default_geometry};
 ghost use Rattle.flymon_engine.specs.Carrying.{IsToldBefore};
 ghost use Rattle.flymon_engine.specs.Live.{job_at, HoldStart, Touches};
@@ -45,7 +45,7 @@ impl LiveTask {
         requires least { 5 ≤ bits }
         requires most { bits ≤ 10 }
         requires sized { task.size ≡ 2 ^ bits }
-        requires closed { is_closed task.kind ≡ true }
+        requires closed { has_independent_rows task.kind ≡ true }
         ensures hash_key { result.hash_key ≡ hash_key }
         ensures task { result.task ≡ task }
         ensures bits { result.bits ≡ bits }

@@ -2,7 +2,7 @@
 ghost use Rattle.std.specs.Prelude.{◌≡◌, ◌≤◌, ◌^◌, true, drop, IfSome};
 ghost use Rattle.std.specs.List.{list_all};
 ghost use Rattle.std.specs.Option.{option_map};
-ghost use Rattle.flymon_engine.specs.Script.{Job, is_closed, size_bits, is_served, added_in, job_of, built_in};
+ghost use Rattle.flymon_engine.specs.Script.{Job, has_independent_rows, size_bits, is_served, added_in, job_of, built_in};
 
 use sketch_defs::{Kind, Task};
 use task_lang::Command;
@@ -17,7 +17,7 @@ pub(crate) struct Session {
     ghost least: { 5 ≤ bits },
     ghost most: { bits ≤ 10 },
     ghost sized: { task.size ≡ 2 ^ bits },
-    ghost closed: { is_closed task.kind ≡ true },
+    ghost closed: { has_independent_rows task.kind ≡ true },
     ghost served: { list_all is_served (drop 1 commands.items) ≡ true },
 }
 
@@ -57,12 +57,12 @@ impl Session {
 #[tactic(auto, unfolding(crate::specs::Script::job_of))]
 fn bits_of(task: &Task) -> Option<u32>
     ensures job { option_map (λ bits. let job : Job = record { task = task.now; bits = bits } in job) result ≡ job_of task.now }
-    ensures closed { IfSome result (λ bits. is_closed task.now.kind ≡ true) }
+    ensures closed { IfSome result (λ bits. has_independent_rows task.now.kind ≡ true) }
     ensures least { IfSome result (λ bits. 5 ≤ bits) }
     ensures most { IfSome result (λ bits. bits ≤ 10) }
     ensures sized { IfSome result (λ bits. task.now.size ≡ 2 ^ bits) }
 {
-    if is_closed(task.kind()) {
+    if has_independent_rows(task.kind()) {
         size_bits(task.size())
     } else {
         None
@@ -70,8 +70,8 @@ fn bits_of(task: &Task) -> Option<u32>
 }
 
 /// Whether the rows of the kind know nothing of one another.
-fn is_closed(kind: Kind) -> bool
-    ensures { result ≡ is_closed kind }
+fn has_independent_rows(kind: Kind) -> bool
+    ensures { result ≡ has_independent_rows kind }
 {
     kind != Kind::SumaxSum
 }

@@ -1,7 +1,7 @@
 //! The live task as the engine keeps it.
 ghost use Rattle.std.specs.Prelude.{◌≡◌, ◌^◌, ◌≤◌, true, None};
 ghost use Rattle.sketch_lower.specs.Lowering.{micro_of};
-ghost use Rattle.flymon_engine.specs.Script.{is_closed};
+ghost use Rattle.flymon_engine.specs.Script.{has_independent_rows};
 
 use hash_units::HashKey;
 use match_table::Micro;
@@ -19,6 +19,6 @@ pub(crate) struct LiveTask {
     ghost some: { 1 ≤ task.rows },
     ghost few: { task.rows ≤ 4 },
     ghost sized: { task.size ≡ 2 ^ bits },
-    ghost closed: { is_closed task.kind ≡ true },
+    ghost closed: { has_independent_rows task.kind ≡ true },
     ghost lowered: { micro ≡ micro_of task.kind task.attr None },
 }

@@ -4,7 +4,8 @@ use Rattle.outside.specs.Told.{Grows}
 use Rattle.pkt_headers.specs.declared.packets.Packet.{Packet}
 use Rattle.flymon_engine.specs.Cells.{AreCells}
 use Rattle.flymon_engine.specs.Carrying.{IsToldBefore}
-use Rattle.flymon_engine.specs.Live.{job_at, ArePassed}
+use Rattle.flymon_engine.specs.Live.{job_at}
+use Rattle.flymon_engine.proofs.LiveLemmas.{ArePassed}
 use Rattle.flymon_engine.specs.Steps.{call_on}
 use Rattle.flymon_engine.proofs.task.LiveTask.touch_rows.Given as goal
 
