@@ -1,5 +1,5 @@
 -- What is printed of a command, and how it is read again.
-use Rattle.std.proofs.Common.{◌≡◌, ◌≢◌, ℕ, ◌+◌, ◌^◌, ◌<◌, ◌≤◌, ◌==◌, Bool, true, false, nat_lt, nat_le, List, [], ◌∷◌, ◌++◌, length, slice_index, codes, Option, None, Some, Ok, IsTrue, refl, ap, subst, sym, ◌∙◌, arith, length-append, ⊎_elim}
+use Rattle.std.proofs.Common.{◌≡◌, ◌≢◌, ℕ, ◌^◌, ◌<◌, ◌≤◌, ◌==◌, Bool, true, false, nat_lt, List, [], ◌∷◌, ◌++◌, length, slice_index, codes, Option, None, Some, Ok, IsTrue, refl, ap, subst, sym, ◌∙◌, arith, length-append, ⊎_elim}
 use Rattle.std.specs.List.{join_with_byte, list_all}
 use Rattle.std.specs.Fmt.{decimal}
 use Rattle.std.specs.Str.{bytes_eq}
@@ -13,7 +13,7 @@ use Rattle.texts.proofs.WordLemmas.{words_joined}
 use Rattle.key_mask.specs.declared.fields.Field.{Field}
 use Rattle.key_mask.specs.declared.fields.Field.TheVariants.{SrcIp, DstIp, SrcPort, DstPort, Proto, Tos, EtherType, SrcIp6, DstIp6}
 use Rattle.key_mask.specs.Fields.{fields, field_number, is_length, name_of, width_of}
-use Rattle.key_mask.specs.Items.{field_named, item_text, item_texts, items_text, prefix_text, value_part, with_items}
+use Rattle.key_mask.specs.Items.{field_named, item_text, item_texts, items_text, prefix_text, value_part}
 use Rattle.key_mask.specs.Keys.{is_canonical_key, key_text}
 use Rattle.key_mask.specs.Masks.{AreLengths, no_lengths}
 use Rattle.key_mask.specs.Spellings.{has_no_leading_zero, value_text}

@@ -5,7 +5,7 @@ use Rattle.std.specs.Fmt.{digits}
 use Rattle.std.specs.List.{join_with_byte}
 use Rattle.texts.specs.Words.{words}
 use Rattle.key_mask.specs.declared.fields.Field.TheVariants.{SrcIp, Proto, EtherType}
-use Rattle.key_mask.specs.declared.items.FieldKind.TheVariants.{BadPrefix, BadValue}
+use Rattle.key_mask.specs.declared.items.FieldKind.TheVariants.{BadValue}
 use Rattle.key_mask.specs.Items.{field_named, items_text}
 use Rattle.key_mask.specs.Keys.{key_in, with_item}
 use Rattle.key_mask.specs.Numbers.{number_in, hex_in}

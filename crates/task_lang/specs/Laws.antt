@@ -7,4 +7,5 @@ use Rattle.task_lang.specs.Script.{script_in}
 
 -- a canonical text that reads as a command is that command's printed text: no other is canonical for it
 abbrev pub CanonicalIsPrinted : Type 0
-CanonicalIsPrinted = (text : List ℕ) (command : Command) → IsCanonical text → script_in text ≡ Ok (command ∷ []) → text ≡ command_text command
+CanonicalIsPrinted = (text : List ℕ) (command : Command) → IsCanonical text → script_in text ≡ Ok (command ∷ [])
+    → text ≡ command_text command

@@ -17,7 +17,8 @@ use Rattle.task_lang.specs.Words.{verb_word, kind_word, longest_kind, attr_word,
 -- the words behind `add`
 abbrev pub task_words : Sketch → List (List ℕ)
 task_words task =
-    task.name ∷ kind_word task.kind ∷ decimal task.rows ∷ (codes "key=" ++ key_text task.key) ∷ (codes "attr=" ++ attr_word task.attr)
+    task.name ∷ kind_word task.kind ∷ decimal task.rows ∷ (codes "key=" ++ key_text task.key)
+    ∷ (codes "attr=" ++ attr_word task.attr)
     ∷ (codes "filter=" ++ filter_text task.filter) ∷ (codes "memory=" ++ decimal task.size) ∷ []
 
 abbrev pub command_words : Command → List (List ℕ)
@@ -47,15 +48,15 @@ command_text command = join_with_byte 32 (command_words command)
 abbrev pub longest_front : ℕ
 longest_front = NAME_BYTES + (1 + longest_kind) + (1 + longest_number)
 
--- how many bytes a part of a task has at most with its label, given how many it has without
+-- how many bytes a part of a task has at most behind its label, by how many it has alone
 abbrev pub labelled : List ℕ → ℕ → ℕ
 labelled label longest = length label + longest
 
 -- how many bytes a key, an attribute, a filter and a size have at most, each behind a space and its label
 abbrev pub longest_labelled : ℕ
 longest_labelled =
-    labelled (codes " key=") longest_key + labelled (codes " attr=") longest_attr + labelled (codes " filter=") longest_filter
-    + labelled (codes " memory=") longest_number
+    labelled (codes " key=") longest_key + labelled (codes " attr=") longest_attr
+    + labelled (codes " filter=") longest_filter + labelled (codes " memory=") longest_number
 
 -- how many bytes the text of a task has at most
 abbrev pub longest_task : ℕ

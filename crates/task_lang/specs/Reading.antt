@@ -8,13 +8,15 @@ use Rattle.task_lang.specs.declared.commands.ScriptFault.{ScriptFault}
 use Rattle.task_lang.specs.Script.{at_line, named_in}
 
 -- the commands that the grammar says, or its fault; nothing is said where memory was wanting
-abbrev pub GivesCommands : {A : Type 0} → (A → List Command) → Result A ParseFail → Result (List Command) ScriptFault → Type 0
+abbrev pub GivesCommands : {A : Type 0} → (A → List Command) → Result A ParseFail
+    → Result (List Command) ScriptFault → Type 0
 GivesCommands view (Ok found) said = said ≡ Ok (view found)
 GivesCommands view (Err (fails.Fault fault)) said = said ≡ Err fault
 GivesCommands view (Err fails.Memory) said = Unit {0}
 
 -- the commands behind those of the line of this number, or its fault; nothing is said where memory was wanting
-abbrev pub TakesLine : Result (Unit {0}) ParseFail → ℕ → Result (List Command) LineFault → List Command → List Command → Type 0
+abbrev pub TakesLine : Result (Unit {0}) ParseFail → ℕ → Result (List Command) LineFault
+    → List Command → List Command → Type 0
 TakesLine (Ok done) number (Ok found) before after = after ≡ before ++ found
 TakesLine (Ok done) number (Err fault) before after = ⊥
 TakesLine (Err (fails.Fault fault)) number said before after = at_line number said ≡ Err fault

@@ -134,7 +134,8 @@ with_front before (Err fault) = Err fault
 -- the commands of these lines, the first of which has this number, or the first fault
 abbrev pub script_from : ℕ → List (List ℕ) → Result (List Command) ScriptFault
 script_from number [] = Ok []
-script_from number (line ∷ lines) = at_line number (line_in line) >>= λ found. with_front found (script_from (number + 1) lines)
+script_from number (line ∷ lines) =
+    at_line number (line_in line) >>= λ found. with_front found (script_from (number + 1) lines)
 
 -- the most bytes of a script
 abbrev pub script_limit : ℕ

@@ -34,8 +34,8 @@ longest_verb = length (verb_word verbs.Packets)
 
 abbrev pub all_verbs : List Verb
 all_verbs =
-    verbs.Add ∷ verbs.Resize ∷ verbs.Remove ∷ verbs.Release ∷ verbs.Packets ∷ verbs.Run ∷ verbs.Read ∷ verbs.Frozen ∷ verbs.Query
-    ∷ verbs.Dist ∷ verbs.Card ∷ verbs.Show ∷ verbs.Stat ∷ []
+    verbs.Add ∷ verbs.Resize ∷ verbs.Remove ∷ verbs.Release ∷ verbs.Packets ∷ verbs.Run ∷ verbs.Read
+    ∷ verbs.Frozen ∷ verbs.Query ∷ verbs.Dist ∷ verbs.Card ∷ verbs.Show ∷ verbs.Stat ∷ []
 
 -- the command that begins with this word
 unfoldable pub verb_named : List ℕ → Option Verb
@@ -58,7 +58,8 @@ longest_kind = length (kind_word kinds.SumaxSum)
 
 abbrev pub all_kinds : List Kind
 all_kinds =
-    kinds.Cms ∷ kinds.SumaxSum ∷ kinds.SumaxMax ∷ kinds.Bloom ∷ kinds.Mrac ∷ kinds.Hll ∷ kinds.FlagOr ∷ kinds.FlagAnd ∷ []
+    kinds.Cms ∷ kinds.SumaxSum ∷ kinds.SumaxMax ∷ kinds.Bloom ∷ kinds.Mrac ∷ kinds.Hll
+    ∷ kinds.FlagOr ∷ kinds.FlagAnd ∷ []
 
 -- the kind of this name
 unfoldable pub kind_named : List ℕ → Option Kind
