@@ -10,22 +10,28 @@ ghost use Rattle.key_mask.specs.Items.{field_named, prefix_behind, prefix_in, wi
 use crate::fields::{FIELDS, Field};
 use crate::numbers::number_of;
 use texts::cut;
+use thiserror::Error;
 
 /// What is wrong with an item of a key or a filter.
-#[derive(Clone, Copy, Debug, PartialEq, Eq)]
+#[derive(Clone, Copy, Debug, PartialEq, Eq, Error)]
 pub enum FieldKind {
     /// Its name is no field's.
+    #[error("unknown field")]
     UnknownField,
     /// Its field stood in an earlier item.
+    #[error("repeated field")]
     RepeatedField,
     /// Its prefix is no prefix of the field.
+    #[error("bad prefix")]
     BadPrefix,
     /// Its value is none of the field.
+    #[error("bad value")]
     BadValue,
 }
 
 /// The fault of the first item at fault.
-#[derive(Clone, Copy, Debug, PartialEq, Eq)]
+#[derive(Clone, Copy, Debug, PartialEq, Eq, Error)]
+#[error("{kind} {place}")]
 pub struct FieldFault {
     pub kind: FieldKind,
     /// How many bytes of the text stand before the item.

@@ -232,6 +232,44 @@ mod tests {
     }
 
     #[test]
+    fn ipv6_addresses_of_filters(rt: HostRuntime) -> Result<(), Fail> {
+        let good: [&[u8]; 8] = [
+            b"src_ip6:2001:db8::1",
+            b"src_ip6:::",
+            b"src_ip6:::1",
+            b"src_ip6:1::",
+            b"src_ip6:1::/1",
+            b"dst_ip6:1:2:3:4:5:6:7:8",
+            b"dst_ip6:0001:2:3::FFFF:7:8/128",
+            b"dst_ip6:1:2:3:4:5:6:7::",
+        ];
+        for text in good {
+            assert!(rt; Filter::parse(text).is_ok());
+        }
+        let bad: [&[u8]; 11] = [
+            b"src_ip6:",
+            b"src_ip6:1::2::3",
+            b"src_ip6:1:::2",
+            b"src_ip6:1:2:3:4:5:6:7",
+            b"src_ip6:1:2:3:4:5:6:7:8:9",
+            b"src_ip6:1:2:3:4:5:6:7:8::",
+            b"dst_ip6:1:2:3:4::5:6:7:8",
+            b"dst_ip6:12345::",
+            b"dst_ip6:::ffff:10.0.0.1",
+            b"dst_ip6:10.0.0.1",
+            b"dst_ip:::1",
+        ];
+        for text in bad {
+            let fault = FieldFault {
+                kind: FieldKind::BadValue,
+                place: 0,
+            };
+            assert_eq!(rt; Filter::parse(text), Err(fault));
+        }
+        Ok(())
+    }
+
+    #[test]
     fn filters_print_in_one_spelling(rt: HostRuntime) -> Result<(), Fail> {
         let rows: [(&[u8], &str); 10] = [
             (b"all", "all"),
