@@ -1,5 +1,5 @@
 -- What the operations of one packet leave of the registers of the live task.
-use Rattle.std.proofs.Common.{◌≡◌, ◌≢◌, ℕ, zero, suc, ◌+◌, ◌^◌, ◌<◌, ◌≤◌, true, false, not, List, [], ◌∷◌, ◌++◌, map, Option, None, Some, IfSome, Result, Ok, Err, refl, sym, ap, ◌∙◌, subst, arith, add-one, ⊎_elim}
+use Rattle.std.proofs.Common.{◌≡◌, ◌≢◌, ℕ, zero, suc, ◌+◌, ◌^◌, ◌<◌, ◌≤◌, true, false, List, [], ◌∷◌, ◌++◌, map, Option, None, Some, IfSome, Result, Ok, Err, refl, sym, ap, ◌∙◌, subst, arith, add-one, ⊎_elim}
 use Rattle.std.specs.Prelude.{nat_lt, if◌then◌else◌, slice_index}
 use Rattle.std.specs.List.{range_with_len}
 use Rattle.std.proofs.Math.Pow.{pow_mono}
@@ -22,9 +22,8 @@ use Rattle.reg_file.specs.declared.traits.Call.{Call}
 use Rattle.stateful_ops.specs.declared.ops.Op.{Op}
 use Rattle.stateful_ops.specs.Ops.{new_register}
 use Rattle.sketch_defs.specs.declared.kinds.Kind.{Kind}
-use Rattle.sketch_defs.specs.declared.kinds.Kind.TheVariants.{Cms, SumaxSum, SumaxMax, Bloom, Mrac, Hll, FlagOr, FlagAnd}
-use Rattle.sketch_defs.specs.declared.tasks.TaskFault.TheVariants as faults
-use Rattle.sketch_defs.specs.Tasks.{Sketch, first_fault, most_rows, allows_rows, is_no_key, allows}
+use Rattle.sketch_defs.specs.declared.kinds.Kind.TheVariants.{SumaxSum}
+use Rattle.sketch_defs.specs.Tasks.{Sketch}
 use Rattle.sketch_defs.specs.Cells.{cell_max, key_hash, row_hash_at, index_at, brought_by, bound_at, cells_of, row_of}
 use Rattle.sketch_lower.specs.Lowering.{micro_of}
 use Rattle.sketch_lower.specs.Operations.{operation_at, start_of}

@@ -1,5 +1,5 @@
 -- The packets of a capture, and the fault that ends them, if one does.
-use Rattle.std.specs.Prelude.{◌≡◌, ℕ, ◌+◌, false, List, ◌++◌, map, Option, None, Some, Result, Ok, Err}
+use Rattle.std.specs.Prelude.{◌≡◌, ℕ, ◌+◌, false, List, map, Option, None, Some, Result, Ok, Err}
 use Rattle.capture_read.specs.declared.records.CaptureFault.{CaptureFault}
 use Rattle.capture_read.specs.Records.{Record}
 use Rattle.capture_read.specs.declared.records.CaptureFault.TheVariants.{Read}

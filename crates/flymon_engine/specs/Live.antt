@@ -1,8 +1,8 @@
 -- The live task as the engine keeps it, and what the operations of one packet change.
-use Rattle.std.specs.Prelude.{◌≡◌, ℕ, ◌^◌, ◌<◌, ◌++◌, ◌∷◌, [], List, slice_index, nat_lt, ◌-◌, ◌/◌, ◌==◌, ◌&&◌, Option, None, Some, if◌then◌else◌}
+use Rattle.std.specs.Prelude.{◌≡◌, ℕ, ◌^◌, ◌<◌, List, nat_lt, ◌-◌, ◌/◌, ◌==◌, ◌&&◌, Option, None, Some, if◌then◌else◌}
 use Rattle.pkt_headers.specs.declared.packets.Packet.{Packet}
 use Rattle.reg_file.specs.Registers.{Contents, MakesCall}
-use Rattle.sketch_defs.specs.Cells.{cell_max, index_at, cells_of, row_of}
+use Rattle.sketch_defs.specs.Cells.{cell_max, index_at}
 use Rattle.sketch_lower.specs.Operations.{operation_at, start_of}
 use Rattle.addr_translate.specs.Geometry.{arrays_before}
 use Rattle.flymon_engine.specs.Cells.{array_size, default_geometry}

@@ -1,4 +1,4 @@
-use Rattle.std.proofs.Common.{◌≡◌, ap, ◌∙◌, sym, refl, rules, arith, ◌+◌, ℕ, Err}
+use Rattle.std.proofs.Common.{◌≡◌, ap, ◌∙◌, sym, refl, rules, arith, ◌+◌, Err}
 use Rattle.fm_io.proofs.SlotLemmas.{others_same, others_then, directory_same, directory_then}
 use Rattle.capture_read.specs.declared.records.CaptureFault.{CaptureFault}
 use Rattle.capture_read.specs.declared.records.CaptureFault.TheVariants.{Read}
