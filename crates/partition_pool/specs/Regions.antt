@@ -2,6 +2,7 @@
 use Rattle.std.specs.Prelude.{ℕ, ◌+◌, ◌-◌, ◌*◌, ◌^◌, ◌≤◌, ◌==◌, ◌&&◌, ◌||◌, Bool, if◌then◌else◌, nat_le, Option, List, [], ◌∷◌, map, count_by, All}
 use Rattle.std.specs.List.{range_with_len, find, list_all}
 use Rattle.addr_translate.specs.Blocks.{Block, IsAligned}
+use Rattle.sorted_lists.specs.Sorting.{put_by, sort_by, cut_by}
 
 -- ---- free regions
 
@@ -35,24 +36,24 @@ pub record IsPartition (least array_bits : ℕ) (region : Block) : Type 0 where
 
 -- ---- the list of taken regions, by base
 
+-- which of two regions comes first
+abbrev pub begins_before : Block → Block → Bool
+begins_before one two = nat_le one.base two.base
+
 -- with one region more
 abbrev pub put_by_base : Block → List Block → List Block
-put_by_base region [] = region ∷ []
-put_by_base region (other ∷ others) =
-    if nat_le region.base other.base then region ∷ other ∷ others else (other ∷ put_by_base region others)
+put_by_base region regions = put_by begins_before region regions
 
 -- any regions, by base
 abbrev pub by_base : List Block → List Block
-by_base [] = []
-by_base (region ∷ regions) = put_by_base region (by_base regions)
+by_base regions = sort_by begins_before regions
 
 abbrev pub is_block : Block → Block → Bool
 is_block one two = (one.base == two.base) && (one.bits == two.bits)
 
 -- without this region
 abbrev pub without : Block → List Block → List Block
-without region [] = []
-without region (other ∷ others) = if is_block other region then others else (other ∷ without region others)
+without region regions = cut_by (λ other. is_block other region) regions
 
 -- regions of at least 2 ^ least registers from low up to high, by base, none meeting another
 abbrev pub InOrder : ℕ → ℕ → ℕ → List Block → Type 0
