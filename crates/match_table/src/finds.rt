@@ -10,8 +10,9 @@ use crate::entries::Entry;
 use key_mask::KeyVec;
 use std::cmp::Ordering;
 
-/// From this many entries on the entries of a mask are looked through by halving.
-const HALVED_FROM: usize = 32;
+/// From this many entries on the entries of a mask are looked through by halving: comparing values
+/// whole costs several times what the test of one filter does.
+const HALVED_FROM: usize = 64;
 
 /// The entries of the mask at this place.
 pub(crate) fn group_in<'a>(ranked: &'a [Entry], ends: &[usize], at: usize) -> &'a [Entry]
@@ -70,6 +71,9 @@ fn find_in_group<'a>(group: &'a [Entry], vec: &KeyVec) -> Option<&'a Entry>
     requires group { IsGroup group.now }
     ensures { option_copied result ≡ find (takes vec.now) group.now }
 {
+    if group.len() < HALVED_FROM {
+        return scan(group, vec);
+    }
     let value = vec.masked(group[0].filter.mask());
     find_value(group, &value)
 }
@@ -79,13 +83,9 @@ fn find_value<'a>(group: &'a [Entry], value: &KeyVec) -> Option<&'a Entry>
     requires { IsGroup group.now }
     ensures { option_copied result ≡ find (has_value value.now) group.now }
 {
-    if group.len() < HALVED_FROM {
-        group.iter().find(|entry| value == entry.filter.value())
-    } else {
-        match group.binary_search_by(|entry| value_order(entry, value)) {
-            Ok(at) => Some(&group[at]),
-            Err(_) => None,
-        }
+    match group.binary_search_by(|entry| value_order(entry, value)) {
+        Ok(at) => Some(&group[at]),
+        Err(_) => None,
     }
 }
 

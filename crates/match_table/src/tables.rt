@@ -13,8 +13,9 @@ use std::alloc::{AllocError, Global};
 use std::marker::Model;
 use task_filters::Filter;
 
-/// From this many entries on a table is looked through mask by mask, which costs more for few.
-const GROUPED_FROM: usize = 16;
+/// With this many entries a mask, one mask with another, a table is looked through mask by mask,
+/// which costs more than a plain scan where a mask has few.
+const GROUPED_FROM: usize = 64;
 
 /// Entries in order of installation. No vector matches two of them, and their bases differ. They
 /// stand besides in order of their masks and, under one mask, of their values.
@@ -84,7 +85,7 @@ impl Table {
         ensures found { option_copied result ≡ find (takes vec.now) self.now.entries }
         ensures alone { length (filter (takes vec.now) self.now.entries) ≤ 1 }
     {
-        if self.list.len() < GROUPED_FROM {
+        if self.list.len() / GROUPED_FROM < self.ends.len() {
             scan(&self.list, vec)
         } else {
             find_in(&self.ranked, &self.ends, vec)

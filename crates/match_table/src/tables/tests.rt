@@ -112,3 +112,37 @@ fn groups_stand_in_order(rt: HostRuntime) -> Result<(), Fail> {
     assert_eq!(rt; agreements(&twin, &list).1, 1000);
     Ok(())
 }
+
+// an entry for packets from this port
+fn port_entry(alloc: Global, port: u32) -> Result<Entry, Fail> {
+    let text = format!(in alloc; "src_port:{port}")?;
+    let filter = Filter::parse(text.as_bytes()).ok().ok_or("a filter")?;
+    Ok(Entry {
+        row: 0,
+        filter,
+        keys: KeyUse::Single { unit: 0 },
+        region: Region {
+            base: port,
+            bits: 0,
+        },
+        micro: MICRO,
+    })
+}
+
+#[test]
+fn many_entries_of_one_mask(rt: HostRuntime) -> Result<(), Fail> {
+    let alloc = rt.alloc();
+    let mut table = Table::new(alloc, 256)?;
+    let mut list: Vec<Entry> = Vec::new(alloc);
+    // every other port, so that half of the vectors find none
+    for number in 0..200u32 {
+        let entry = port_entry(alloc, number * 2)?;
+        assert!(rt; put_in(&mut table, &entry));
+        list.push(entry)?;
+    }
+    assert_eq!(rt; table.mask_count(), 1);
+    let (found, same) = agreements(&table, &list);
+    assert!(rt; found > 100 && found < 900);
+    assert_eq!(rt; same, 1000);
+    Ok(())
+}

@@ -9,21 +9,21 @@ use Rattle.match_table.proofs.tables.Table.find.Goals as goal
 
 pub find_in-requires-clause-rising : goal.find_in-requires-clause-rising
 find_in-requires-clause-rising c =
-    subst (λ (l : List Entry). Rising comes_first l) (sym c.deref-else-len-lt-GROUPED_FROM.ensures.value)
+    subst (λ (l : List Entry). Rising comes_first l) (sym c.deref-else-len.ensures.value)
     (kept_rises c.self.inside.list.items c.self.inside.ranked.items c.self.invariant.apart c.self.invariant.in_rank)
 
-pub returns-else-len-lt-GROUPED_FROM-clause-found : goal.returns-else-len-lt-GROUPED_FROM-clause-found
-returns-else-len-lt-GROUPED_FROM-clause-found c =
+pub returns-else-len-clause-found : goal.returns-else-len-clause-found
+returns-else-len-clause-found c =
     let vec = c.args.vec.now in
-    c.find_in.ensures ∙ ap (find (takes vec)) (c.deref-else-len-lt-GROUPED_FROM.ensures.value ∙ c.self.invariant.in_rank)
+    c.find_in.ensures ∙ ap (find (takes vec)) (c.deref-else-len.ensures.value ∙ c.self.invariant.in_rank)
     ∙ rank_find vec c.self.inside.list.items c.self.invariant.apart ∙ ap (λ (r : EntryTable). find (takes vec) r.entries) c.self.view_is
 
-pub returns-then-len-lt-GROUPED_FROM-clause-alone : goal.returns-then-len-lt-GROUPED_FROM-clause-alone
-returns-then-len-lt-GROUPED_FROM-clause-alone c =
+pub returns-then-len-clause-alone : goal.returns-then-len-clause-alone
+returns-then-len-clause-alone c =
     subst (λ (r : EntryTable). length (filter (takes c.args.vec.now) r.entries) ≤ 1) c.self.view_is
     (one_takes c.args.vec.now c.self.inside.list.items c.self.invariant.apart)
 
-pub returns-else-len-lt-GROUPED_FROM-clause-alone : goal.returns-else-len-lt-GROUPED_FROM-clause-alone
-returns-else-len-lt-GROUPED_FROM-clause-alone c =
+pub returns-else-len-clause-alone : goal.returns-else-len-clause-alone
+returns-else-len-clause-alone c =
     subst (λ (r : EntryTable). length (filter (takes c.args.vec.now) r.entries) ≤ 1) c.self.view_is
     (one_takes c.args.vec.now c.self.inside.list.items c.self.invariant.apart)
