@@ -1,3 +1,6 @@
 pub mod Packets
 pub mod Frames
 pub mod Captures
+pub mod Scripts
+pub mod Places
+pub mod GenFiles

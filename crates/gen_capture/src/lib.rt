@@ -1,6 +1,11 @@
 //! A script and a capture that nobody has to bring: the packets of a generator, made as they are read.
 #![tactic(auto)]
 
-pub mod packets;
-pub mod records;
+mod gen_files;
+mod packets;
+mod places;
+mod reading;
+mod records;
+mod scripts;
 
+pub use gen_files::GenFiles;

@@ -4,7 +4,7 @@ ghost use Rattle.gen_capture.specs.Packets.{step, server_port, packet_of};
 
 /// A TCP packet from the host 10.0.0.`source` to the host 192.168.1.`destination`.
 #[derive(Clone, Copy)]
-pub struct GenPacket {
+pub(crate) struct GenPacket {
     pub source: u8,
     pub source_port: u16,
     pub destination: u8,
@@ -19,7 +19,7 @@ const MULTIPLIER: u64 = 6364136223846793005;
 const INCREMENT: u64 = 1442695040888963407;
 
 /// The state behind this one.
-pub fn step(state: u64) -> u64
+pub(crate) fn step(state: u64) -> u64
     ensures { result ≡ step state }
 {
     MULTIPLIER.wrapping_mul(state).wrapping_add(INCREMENT)
@@ -33,7 +33,7 @@ fn server_port(high: u64) -> u16
 }
 
 /// The packet of a state.
-pub fn packet_of(state: u64) -> GenPacket
+pub(crate) fn packet_of(state: u64) -> GenPacket
     ensures { result ≡ packet_of state }
 {
     let high = state >> 32;

@@ -5,16 +5,16 @@ ghost use Rattle.gen_capture.specs.Captures.{record_bytes};
 use crate::packets::GenPacket;
 
 /// A capture in little-endian order, with times in microseconds, of Ethernet frames.
-pub const HEADER: [u8; 24] = [
+pub(crate) const HEADER: [u8; 24] = [
     0xd4, 0xc3, 0xb2, 0xa1, 2, 0, 4, 0, 0, 0, 0, 0, 0, 0, 0, 0, 0, 0, 4, 0, 1, 0, 0, 0,
 ];
 
 /// The bytes of a record: 16, and the 54 of its frame.
-pub const RECORD_BYTES: usize = 70;
+pub(crate) const RECORD_BYTES: usize = 70;
 
 /// The record of a packet, with the time 0.
 #[rattlefmt::skip]
-pub fn record_of(packet: GenPacket) -> [u8; RECORD_BYTES]
+pub(crate) fn record_of(packet: GenPacket) -> [u8; RECORD_BYTES]
     ensures { result ≡ record_bytes packet }
 {
     let len = packet.len.to_le_bytes();

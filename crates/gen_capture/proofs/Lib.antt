@@ -1,0 +1,2 @@
+mod RestLemmas
+mod ScriptLemmas
