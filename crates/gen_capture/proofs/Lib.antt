@@ -1,2 +1,3 @@
 mod RestLemmas
 mod ScriptLemmas
+mod PlaceLemmas

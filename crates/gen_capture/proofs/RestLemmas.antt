@@ -6,7 +6,7 @@ use Rattle.std.proofs.lemmas.List.{length-drop, drop-drop, drop_all, drop-append
 use Rattle.gen_capture.specs.declared.places.CapturePlace.{CapturePlace}
 use Rattle.gen_capture.specs.Packets.{step, packet_of}
 use Rattle.gen_capture.specs.Frames.{frame_of}
-use Rattle.gen_capture.specs.Captures.{header_bytes, record_bytes, records_bytes}
+use Rattle.gen_capture.specs.Captures.{header_bytes, record_bytes, records_bytes, capture_text}
 use Rattle.gen_capture.specs.Places.{present, rest_of}
 
 pub length-record_bytes : (state : ℕ) → length (record_bytes (packet_of state)) ≡ 70
@@ -106,3 +106,11 @@ unfolding rest_of records_bytes
 rest_end count place none all =
     let no_more : count - place.begun ≡ 0 = omega arith in
     rw (nothing_left place none, no_more) refl
+
+-- before the first read the whole capture is to come
+pub rest_first : (seed count : ℕ) (place : CapturePlace) → place.begun ≡ 0 → place.state ≡ seed → place.left ≡ 24
+    → capture_text seed count ≡ rest_of count place
+unfolding capture_text rest_of header_bytes
+rest_first seed count place begun state left =
+    let all : count ≡ count - 0 = omega arith in
+    rw (begun, state, left) (ap (λ k. header_bytes ++ records_bytes seed k) all)

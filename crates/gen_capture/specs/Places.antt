@@ -62,5 +62,17 @@ abbrev pub rest_at : ℕ → Place → List ℕ
 rest_at count (Script at) = drop at script_text
 rest_at count (Capture place) = rest_of count place
 
-abbrev pub IsPlaced : ℕ → ℕ → Place → Type 0
-IsPlaced seed count place = drop (cursor_in seed count place).at (cursor_in seed count place).bytes ≡ rest_at count place
+-- the same of a slot, of which nothing is to come where no text is attached
+abbrev pub to_come : ℕ → Option Place → List ℕ
+to_come count None = []
+to_come count (Some place) = rest_at count place
+
+-- what is left of the text of a slot
+abbrev pub left_in : ℕ → ℕ → Option Place → List ℕ
+left_in seed count None = []
+left_in seed count (Some place) = let cursor = cursor_in seed count place in drop cursor.at cursor.bytes
+
+-- in each slot is to come what is left of its text
+abbrev pub ArePlaced : ℕ → ℕ → List (Option Place) → Type 0
+ArePlaced seed count places =
+    (slot : ℕ) → left_in seed count (slice_index_or places slot None) ≡ to_come count (slice_index_or places slot None)
