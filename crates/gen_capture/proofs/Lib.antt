@@ -1,3 +1,5 @@
 mod RestLemmas
 mod ScriptLemmas
 mod PlaceLemmas
+mod CaptureLemmas
+mod Values

@@ -4,3 +4,4 @@ pub mod Captures
 pub mod Scripts
 pub mod Places
 pub mod GenFiles
+pub mod Laws

@@ -2,6 +2,7 @@
 #![tactic(auto)]
 
 mod gen_files;
+pub mod laws;
 mod packets;
 mod places;
 mod reading;
