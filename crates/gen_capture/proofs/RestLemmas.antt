@@ -109,8 +109,8 @@ rest_end count place none all =
 
 -- before the first read the whole capture is to come
 pub rest_first : (seed count : ℕ) (place : CapturePlace) → place.begun ≡ 0 → place.state ≡ seed → place.left ≡ 24
-    → capture_text seed count ≡ rest_of count place
+    → rest_of count place ≡ capture_text seed count
 unfolding capture_text rest_of header_bytes
 rest_first seed count place begun state left =
-    let all : count ≡ count - 0 = omega arith in
+    let all : count - 0 ≡ count = omega arith in
     rw (begun, state, left) (ap (λ k. header_bytes ++ records_bytes seed k) all)

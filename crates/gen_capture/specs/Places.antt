@@ -41,10 +41,6 @@ abbrev pub cursor_in : ℕ → ℕ → Place → Cursor
 cursor_in seed count (Script at) = record { bytes = script_text; at = at }
 cursor_in seed count (Capture place) = record { bytes = capture_text seed count; at = offset_of place }
 
--- so many bytes more were read
-abbrev pub moved_by : ℕ → Cursor → Cursor
-moved_by count cursor = record cursor { at = cursor.at + count }
-
 -- a slot with a text tells its bytes and position
 abbrev pub slot_in : ℕ → ℕ → Option Place → Slot
 slot_in seed count None = no_file
@@ -67,12 +63,16 @@ abbrev pub to_come : ℕ → Option Place → List ℕ
 to_come count None = []
 to_come count (Some place) = rest_at count place
 
--- what is left of the text of a slot
+abbrev pub left_of : Cursor → List ℕ
+left_of cursor = drop cursor.at cursor.bytes
+
 abbrev pub left_in : ℕ → ℕ → Option Place → List ℕ
 left_in seed count None = []
-left_in seed count (Some place) = let cursor = cursor_in seed count place in drop cursor.at cursor.bytes
+left_in seed count (Some place) = left_of (cursor_in seed count place)
 
--- in each slot is to come what is left of its text
+-- what is to come is what is left of the text
+abbrev pub IsPlaced : ℕ → ℕ → Option Place → Type 0
+IsPlaced seed count place = to_come count place ≡ left_in seed count place
+
 abbrev pub ArePlaced : ℕ → ℕ → List (Option Place) → Type 0
-ArePlaced seed count places =
-    (slot : ℕ) → left_in seed count (slice_index_or places slot None) ≡ to_come count (slice_index_or places slot None)
+ArePlaced seed count places = (slot : ℕ) → IsPlaced seed count (slice_index_or places slot None)

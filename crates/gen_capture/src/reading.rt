@@ -4,7 +4,7 @@ ghost use Rattle.std.specs.List.{list_any};
 ghost use Rattle.std.specs.Str.{bytes_eq};
 ghost use Rattle.fm_io.specs.Slots.{slot_at, OthersStay, Begins, Yields, IsAtEnd};
 ghost use Rattle.gen_capture.specs.Scripts.{script_text};
-ghost use Rattle.gen_capture.specs.Places.{names, text_in, rest_of, offset_of, rest_at, cursor_in, moved_by, to_come, left_in, ArePlaced, slot_in, slots_in};
+ghost use Rattle.gen_capture.specs.Places.{names, text_in, rest_of, offset_of, cursor_in, slot_in, slots_in, IsPlaced, ArePlaced};
 
 use crate::packets::{packet_of, step};
 use crate::places::{CapturePlace, Place};
@@ -16,7 +16,7 @@ pub(crate) fn start_of(seed: u64, name: &str) -> Option<Place>
     ensures there { list_any (bytes_eq name.now) names ≡ is_some result }
     ensures told { (count : ℕ) → is_some (text_in seed count name.now) ≡ is_some result }
     ensures begins { (count : ℕ) → Begins (text_in seed count name.now) (slot_in seed count result).cursor }
-    ensures placed { (count : ℕ) → left_in seed count result ≡ to_come count result }
+    ensures placed { (count : ℕ) → IsPlaced seed count result }
 {
     if name == "script" {
         Some(Place::Script { at: 0 })
@@ -104,17 +104,12 @@ fn read_script(at: &mut usize, buf: &mut [u8]) -> usize
 
 /// Reads on in a text, of which the place is one.
 pub(crate) fn read_on(place: &mut Place, count: u32, buf: &mut [u8]) -> usize
-    ensures next { take result buf.new ≡ take result (rest_at count place.old) }
-    ensures left { rest_at count place.new ≡ drop result (rest_at count place.old) }
-    ensures moves { (seed : ℕ) → cursor_in seed count place.new ≡ moved_by result (cursor_in seed count place.old) }
-    ensures placed { (seed : ℕ) → left_in seed count (Some place.old) ≡ to_come count (Some place.old)
-        → left_in seed count (Some place.new) ≡ to_come count (Some place.new) }
-    ensures yields { (seed : ℕ) → left_in seed count (Some place.old) ≡ to_come count (Some place.old)
+    ensures placed { (seed : ℕ) → IsPlaced seed count (Some place.old) → IsPlaced seed count (Some place.new) }
+    ensures yields { (seed : ℕ) → IsPlaced seed count (Some place.old)
         → Yields (take result buf.new) (cursor_in seed count place.old) (cursor_in seed count place.new) }
-    ensures at_end { (seed : ℕ) → left_in seed count (Some place.old) ≡ to_come count (Some place.old)
-        → 0 < length buf.old → result ≡ 0 → IsAtEnd (cursor_in seed count place.new) }
+    ensures end { (seed : ℕ) → IsPlaced seed count (Some place.old) → 0 < length buf.old → result ≡ 0
+        → IsAtEnd (cursor_in seed count place.new) }
     ensures within { result ≤ length buf.old }
-    ensures end { 0 < length buf.old → result ≡ 0 → rest_at count place.old ≡ [] }
     ensures rest { drop result buf.new ≡ drop result buf.old }
 {
     match place {
@@ -129,7 +124,7 @@ pub(crate) fn put_place(places: &mut [Option<Place>], slot: usize, place: Option
     requires three { length places.old ≡ 3 }
     ensures here { (seed count : ℕ) → slot_at (slots_in seed count places.new) slot ≡ slot_in seed count place }
     ensures others { (seed count : ℕ) → OthersStay slot (slots_in seed count places.old) (slots_in seed count places.new) }
-    ensures placed { (seed count : ℕ) → ArePlaced seed count places.old → left_in seed count place ≡ to_come count place
+    ensures placed { (seed count : ℕ) → ArePlaced seed count places.old → IsPlaced seed count place
         → ArePlaced seed count places.new }
 {
     places[slot] = place;

@@ -1,17 +1,17 @@
-use Rattle.std.proofs.Common.{◌≤◌, length, ◌∙◌, arith}
+use Rattle.std.proofs.Common.{◌≤◌, length, sym, ◌∙◌, arith}
 use Rattle.gen_capture.specs.Scripts.{script_text}
 use Rattle.gen_capture.specs.Captures.{capture_text}
 use Rattle.gen_capture.specs.Places.{offset_of}
 use Rattle.gen_capture.proofs.PlaceLemmas.{all_read}
 use Rattle.gen_capture.proofs.reading.read_on.Goals as goal
 
-pub returns-in-Script-clause-at_end : goal.returns-in-Script-clause-at_end
-returns-in-Script-clause-at_end c = λ seed placed room none.
+pub returns-in-Script-clause-end : goal.returns-in-Script-clause-end
+returns-in-Script-clause-end c = λ seed placed room none.
     let read = all_read c.in-Script.at script_text (c.read_script.ensures.end room none) in
     omega (arith, read, c.read_script.ensures.at)
 
-pub returns-in-Capture-clause-at_end : goal.returns-in-Capture-clause-at_end
-returns-in-Capture-clause-at_end c = λ seed placed room none.
+pub returns-in-Capture-clause-end : goal.returns-in-Capture-clause-end
+returns-in-Capture-clause-end c = λ seed placed room none.
     let here = rw c.in-Capture.is at placed in
-    let read = all_read (offset_of c.in-Capture.place) (capture_text seed c.args.count) (here ∙ c.read_capture.ensures.end room none) in
+    let read = all_read (offset_of c.in-Capture.place) (capture_text seed c.args.count) (sym here ∙ c.read_capture.ensures.end room none) in
     omega (arith, read, c.read_capture.ensures.offset)

@@ -28,4 +28,4 @@ returns-clause-end c = λ none.
     get_or_default files.places slot None _ (omega (arith, c.requires.slot)) ∙ c.in-Some.is in
     let placed = rw is at (files.placed slot) in
     slot_ends files.seed files.count c.read_on-read.new.place _ (c.put_place.ensures.here files.seed files.count)
-    (c.read_on-read.ensures.at_end files.seed placed c.requires.room none)
+    (c.read_on-read.ensures.end files.seed placed c.requires.room none)
