@@ -10,3 +10,6 @@ mod records;
 mod scripts;
 
 pub use gen_files::GenFiles;
+
+#[cfg(test)]
+mod tests;
