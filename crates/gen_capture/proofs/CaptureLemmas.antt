@@ -1,12 +1,12 @@
 -- The generated capture is written as captures are.
-use Rattle.std.proofs.Common.{◌≡◌, ℕ, zero, suc, ◌+◌, ◌≤◌, List, [], ◌∷◌, ◌++◌, map, length, None, Ok, refl, sym, ap, ◌∙◌, arith}
+use Rattle.std.proofs.Common.{◌≡◌, ℕ, zero, suc, ◌+◌, ◌≤◌, List, [], ◌∷◌, map, length, None, Ok, refl, ap, ◌∙◌, arith}
 use Rattle.std.specs.List.{All}
 use Rattle.std.proofs.lemmas.List.{length-map}
 use Rattle.std.proofs.lemmas.List.Elements.{All-nil, All-cons}
 use Rattle.capture_read.specs.declared.records.Order.TheVariants.{Little}
 use Rattle.capture_read.specs.Records.{Record, header_in, byte_order_in, has_magic}
-use Rattle.capture_read.specs.Reading.{Records, capture_in}
-use Rattle.capture_read.specs.Laws.{Source, IsSource, records_from, ReadsBackWhatIsWritten}
+use Rattle.capture_read.specs.Reading.{Records}
+use Rattle.capture_read.specs.Laws.{IsSource, records_from, ReadsBackWhatIsWritten}
 use Rattle.gen_capture.specs.declared.packets.GenPacket.{GenPacket}
 use Rattle.gen_capture.specs.Packets.{step, packet_of, packets_after}
 use Rattle.gen_capture.specs.Frames.{frame_of}

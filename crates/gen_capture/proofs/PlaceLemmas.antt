@@ -1,5 +1,5 @@
 -- The slots of places.
-use Rattle.std.proofs.Common.{◌≡◌, ℕ, zero, suc, ◌<◌, ◌≤◌, List, [], length, drop, Option, None, Some, IfSome, refl, ap, sym, subst, ◌∙◌, arith}
+use Rattle.std.proofs.Common.{◌≡◌, ℕ, zero, suc, ◌<◌, ◌≤◌, List, [], length, drop, Option, None, Some, IfSome, refl, ap, arith}
 use Rattle.std.specs.List.{slice_index_or}
 use Rattle.std.proofs.lemmas.List.{length-drop}
 use Rattle.fm_io.specs.Slots.{Cursor, Slot, SlotMoves, IsAtEnd, slot_at}

@@ -1,7 +1,6 @@
 -- Worked values: the first packets behind the seed 0, and the capture of the first alone.
-use Rattle.std.proofs.Common.{◌≡◌, ℕ, List, [], ◌∷◌, ◌++◌, refl}
+use Rattle.std.proofs.Common.{◌≡◌, [], ◌∷◌, ◌++◌, refl}
 use Rattle.std.specs.Prelude.{replicate}
-use Rattle.gen_capture.specs.declared.packets.GenPacket.{GenPacket}
 use Rattle.gen_capture.specs.Packets.{step, packet_of, packets_after}
 use Rattle.gen_capture.specs.Frames.{frame_of}
 use Rattle.gen_capture.specs.Captures.{header_bytes, records_bytes, capture_text}

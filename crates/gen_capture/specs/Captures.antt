@@ -1,7 +1,6 @@
 -- The generated capture: a header, and a record for each packet.
-use Rattle.std.specs.Prelude.{ℕ, ◌+◌, List, [], ◌∷◌, ◌++◌, map, replicate}
+use Rattle.std.specs.Prelude.{ℕ, List, [], ◌∷◌, ◌++◌, map, replicate}
 use Rattle.capture_read.specs.declared.records.Order.TheVariants.{Little}
-use Rattle.capture_read.specs.Records.{Record}
 use Rattle.capture_read.specs.Laws.{Source, source_bytes, written}
 use Rattle.gen_capture.specs.declared.packets.GenPacket.{GenPacket}
 use Rattle.gen_capture.specs.Packets.{packets_after}

@@ -1,4 +1,4 @@
-use Rattle.std.proofs.Common.{sym, ap, ◌∙◌, arith}
+use Rattle.std.proofs.Common.{ap, ◌∙◌, arith}
 use Rattle.gen_capture.specs.Captures.{header_bytes, record_bytes}
 use Rattle.gen_capture.proofs.RestLemmas.{header_present, record_present, rest_front}
 use Rattle.gen_capture.proofs.reading.copy_present.Goals as goal

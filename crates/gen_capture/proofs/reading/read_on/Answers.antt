@@ -1,4 +1,4 @@
-use Rattle.std.proofs.Common.{◌≤◌, length, sym, ◌∙◌, arith}
+use Rattle.std.proofs.Common.{sym, ◌∙◌, arith}
 use Rattle.gen_capture.specs.Scripts.{script_text}
 use Rattle.gen_capture.specs.Captures.{capture_text}
 use Rattle.gen_capture.specs.Places.{offset_of}
