@@ -44,7 +44,8 @@ all_sources state (suc more) =
     (is_source (step state)) (all_sources (step state) more)
 
 -- each record has 70 bytes
-records_from-sources : (at : ℕ) (packets : List GenPacket) → records_from at (map source_of packets) ≡ records_of at packets
+records_from-sources : (at : ℕ) (packets : List GenPacket)
+    → records_from at (map source_of packets) ≡ records_of at packets
 records_from-sources at [] = refl
 records_from-sources at (packet ∷ packets) =
     let size : at + (16 + length (frame_of packet)) ≡ at + 70 = omega (arith, length-frame_of packet) in

@@ -17,10 +17,11 @@ slot_of_place seed count (suc zero) places few = refl
 slot_of_place seed count (suc (suc zero)) places few = refl
 slot_of_place seed count (suc (suc (suc slot))) places few = absurd (omega arith)
 
-pub slot_moves : {R : Cursor → Cursor → Type 0} (seed count : ℕ) (old new : Place) (a b : Slot) → a ≡ slot_in seed count (Some old)
-    → b ≡ slot_in seed count (Some new) → R (cursor_in seed count old) (cursor_in seed count new) → SlotMoves R a b
+pub slot_moves : {R : Cursor → Cursor → Type 0} (seed count : ℕ) (old new : Place) (a b : Slot)
+    → a ≡ slot_in seed count (Some old) → b ≡ slot_in seed count (Some new)
+    → R (cursor_in seed count old) (cursor_in seed count new) → SlotMoves R a b
 slot_moves seed count old new a b before now r = rw (before, now) (record { attached = refl; cursor = r })
 
-pub slot_ends : (seed count : ℕ) (new : Place) (b : Slot) → b ≡ slot_in seed count (Some new) → IsAtEnd (cursor_in seed count new)
-    → IfSome b.cursor IsAtEnd
+pub slot_ends : (seed count : ℕ) (new : Place) (b : Slot) → b ≡ slot_in seed count (Some new)
+    → IsAtEnd (cursor_in seed count new) → IfSome b.cursor IsAtEnd
 slot_ends seed count new b now end = rw now end

@@ -24,7 +24,8 @@ size place = if place.begun == 0 then 24 else 70
 length-present : (place : CapturePlace) → length (present place) ≡ size place
 length-present place = by (place.begun == 0)
   where
-    by : (b : Bool) → length (if b then header_bytes else record_bytes (packet_of place.state)) ≡ (if b then 24 else 70)
+    by : (b : Bool)
+        → length (if b then header_bytes else record_bytes (packet_of place.state)) ≡ (if b then 24 else 70)
     by true = length-header_bytes
     by false = length-record_bytes place.state
 
@@ -42,17 +43,20 @@ last_of place = drop (length (present place) - place.left) (present place)
 
 length-last_of : (place : CapturePlace) → length (last_of place) ≡ place.left
 length-last_of place =
-    omega (arith, length-drop (length (present place) - place.left) (present place), length-present place, place.within)
+    let dropped = length-drop (length (present place) - place.left) (present place) in
+    omega (arith, dropped, length-present place, place.within)
 
 -- no more is looked at than what is being read
 pub rest_front : (count n : ℕ) (place : CapturePlace) (piece : List ℕ) → piece ≡ present place → n ≤ place.left
     → take n (drop (length piece - place.left) piece) ≡ take n (rest_of count place)
 unfolding rest_of
 rest_front count n place piece is few =
+    let records = records_bytes place.state (count - place.begun) in
     ap (λ (l : List ℕ). take n (drop (length l - place.left) l)) is
-    ∙ sym (take-append-le n (last_of place) (records_bytes place.state (count - place.begun)) (omega (arith, length-last_of place)))
+    ∙ sym (take-append-le n (last_of place) records (omega (arith, length-last_of place)))
 
-same_piece : (place new : CapturePlace) → new.begun ≡ place.begun → new.state ≡ place.state → present new ≡ present place
+same_piece : (place new : CapturePlace) → new.begun ≡ place.begun → new.state ≡ place.state
+    → present new ≡ present place
 same_piece place new begun state = rw (begun, state) refl
 
 -- so many bytes more were read of it
@@ -75,13 +79,14 @@ rest_behind count n place new begun state left few =
 nothing_left : (place : CapturePlace) → place.left ≡ 0 → last_of place ≡ []
 nothing_left place none = drop_all (length (present place) - place.left) (present place) (omega arith)
 
-records_next : (state more : ℕ) → records_bytes state (suc more) ≡ record_bytes (packet_of (step state)) ++ records_bytes (step state) more
+records_next : (state more : ℕ) → records_bytes state (suc more)
+    ≡ record_bytes (packet_of (step state)) ++ records_bytes (step state) more
 unfolding records_bytes record_bytes
 records_next state more = refl
 
 -- the next record is begun
-pub rest_next : (count : ℕ) (place new : CapturePlace) → place.left ≡ 0 → place.begun < count → new.begun ≡ place.begun + 1
-    → new.state ≡ step place.state → new.left ≡ 70 → rest_of count new ≡ rest_of count place
+pub rest_next : (count : ℕ) (place new : CapturePlace) → place.left ≡ 0 → place.begun < count
+    → new.begun ≡ place.begun + 1 → new.state ≡ step place.state → new.left ≡ 70 → rest_of count new ≡ rest_of count place
 unfolding rest_of
 rest_next count place new none more begun state left =
     let later = count - (place.begun + 1) in
@@ -98,18 +103,20 @@ rest_next count place new none more begun state left =
     ∙ (ap (λ (l : List ℕ). l ++ records_bytes (step place.state) later) piece
     ∙ (sym (records_next place.state later)
     ∙ (ap (records_bytes place.state) (sym here)
-    ∙ ap (λ (l : List ℕ). l ++ records_bytes place.state (count - place.begun)) (sym (nothing_left place none)))))))
+    ∙ ap (λ (l : List ℕ). l ++ records_bytes place.state (count - place.begun))
+    (sym (nothing_left place none)))))))
 
 -- nothing comes behind the last record
-pub rest_end : (count : ℕ) (place : CapturePlace) → place.left ≡ 0 → count ≤ place.begun → rest_of count place ≡ []
+pub rest_end : (count : ℕ) (place : CapturePlace) → place.left ≡ 0 → count ≤ place.begun
+    → rest_of count place ≡ []
 unfolding rest_of records_bytes
 rest_end count place none all =
     let no_more : count - place.begun ≡ 0 = omega arith in
     rw (nothing_left place none, no_more) refl
 
 -- before the first read the whole capture is to come
-pub rest_first : (seed count : ℕ) (place : CapturePlace) → place.begun ≡ 0 → place.state ≡ seed → place.left ≡ 24
-    → rest_of count place ≡ capture_text seed count
+pub rest_first : (seed count : ℕ) (place : CapturePlace) → place.begun ≡ 0 → place.state ≡ seed
+    → place.left ≡ 24 → rest_of count place ≡ capture_text seed count
 unfolding capture_text rest_of header_bytes
 rest_first seed count place begun state left =
     let all : count - 0 ≡ count = omega arith in

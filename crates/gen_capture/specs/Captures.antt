@@ -6,7 +6,7 @@ use Rattle.gen_capture.specs.declared.packets.GenPacket.{GenPacket}
 use Rattle.gen_capture.specs.Packets.{packets_after}
 use Rattle.gen_capture.specs.Frames.{frame_of}
 
--- the least significant byte first, times in microseconds, version 2.4, frames of up to 262,144 bytes, Ethernet
+-- little-endian, times in microseconds, version 2.4, frames of up to 262,144 bytes, Ethernet
 unfoldable pub header_bytes : List ℕ
 header_bytes =
     0xd4 ∷ 0xc3 ∷ 0xb2 ∷ 0xa1 ∷ 2 ∷ 0 ∷ 4 ∷ 0 ∷ replicate 8 0 ++ (0 ∷ 0 ∷ 4 ∷ 0 ∷ 1 ∷ 0 ∷ 0 ∷ 0 ∷ [])

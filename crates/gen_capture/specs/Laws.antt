@@ -20,12 +20,15 @@ records_of at (packet ∷ packets) = record_of at packet ∷ records_of (at + 70
 -- a generated capture has a good header, one record for each packet of the generator, in turn, and then ends
 abbrev pub CapturesAreWhole : Type 0
 CapturesAreWhole = (seed count : ℕ) → count ≤ 1000000
-    → capture_in (capture_text seed count) ≡ Ok (record { list = records_of 24 (packets_after seed count); fault = None })
+    → capture_in (capture_text seed count)
+    ≡ Ok (record { list = records_of 24 (packets_after seed count); fault = None })
 
--- the fields that the packet says: TCP over IPv4, without a type of service, with a TTL of 64 and the flag ACK
+-- the fields that a packet says: TCP over IPv4, no type of service, a TTL of 64, and the flag ACK
 abbrev pub read_as : GenPacket → Packet
 read_as packet = record {
-  vec = source_address packet ++ (destination_address packet ++ (ports packet ++ 6 ∷ 0 ∷ 8 ∷ 0 ∷ replicate 32 0));
+  vec =
+      source_address packet
+      ++ (destination_address packet ++ (ports packet ++ 6 ∷ 0 ∷ 8 ∷ 0 ∷ replicate 32 0));
   len = packet.len;
   ttl = 64;
   flags = 0x10;

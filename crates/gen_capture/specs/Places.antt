@@ -31,7 +31,8 @@ present place = if place.begun == 0 then header_bytes else record_bytes (packet_
 -- what is still to come: of what is being read, and of the records behind it
 unfoldable pub rest_of : ℕ → CapturePlace → List ℕ
 rest_of count place =
-    drop (length (present place) - place.left) (present place) ++ records_bytes place.state (count - place.begun)
+    drop (length (present place) - place.left) (present place)
+    ++ records_bytes place.state (count - place.begun)
 
 -- how many bytes of the capture were read
 abbrev pub offset_of : CapturePlace → ℕ
@@ -58,7 +59,7 @@ abbrev pub rest_at : ℕ → Place → List ℕ
 rest_at count (Script at) = drop at script_text
 rest_at count (Capture place) = rest_of count place
 
--- the same of a slot, of which nothing is to come where no text is attached
+-- the same of a slot: nothing is to come where no text is attached
 abbrev pub to_come : ℕ → Option Place → List ℕ
 to_come count None = []
 to_come count (Some place) = rest_at count place

@@ -4,7 +4,8 @@ use Rattle.std.specs.Prelude.{ℕ, List, ◌++◌, codes}
 unfoldable pub script_text : List ℕ
 script_text =
     codes "add load sumax_sum 3 key=src_ip attr=bytes filter=all memory=128\n"
-    ++ codes "add flows cms 3 key=src_ip,dst_ip,src_port,dst_port,proto attr=packets filter=proto:6 memory=256\n"
+    ++ codes "add flows cms 3 key=src_ip,dst_ip,src_port,dst_port,proto "
+    ++ codes "attr=packets filter=proto:6 memory=256\n"
     ++ codes "add dests hll 1 key=dst_ip attr=flow filter=all memory=64\n"
     ++ codes "add sizes mrac 1 key=src_ip attr=packets filter=all memory=32\n"
     ++ codes "run\n"

@@ -62,12 +62,14 @@ impl Files for GenFiles {
         requires { slot < 3 }
         ensures cause { HasCause (faults_of self.old) (faults_of self.new) result }
         ensures last { last_of self.new ≡ last_failed slot (last_of self.old) result }
-        ensures strays { CountsStray (directory_of self.new).names name.now result (strays_of self.old) (strays_of self.new) }
+        ensures strays { CountsStray (directory_of self.new).names name.now result
+            (strays_of self.old) (strays_of self.new) }
         ensures directory { DirectoryStays (directory_of self.old) (directory_of self.new) }
-        ensures slot { Attaches ((directory_of self.new).text name.now) result (slot_at (slots_of self.new) slot) }
+        ensures slot { Attaches ((directory_of self.new).text name.now) result
+            (slot_at (slots_of self.new) slot) }
         ensures others { OthersStay slot (slots_of self.old) (slots_of self.new) }
 
-        // A name that is not there fails, and nothing else; each failure is counted once, as a fault and as a stray.
+        // A name that is not there fails, and nothing else. A failure counts once, as a fault and as a stray.
         ensures fails { is_err result ≡ is_none ((directory_of self.old).text name.now) }
         ensures fault { faults_of self.new ≡ faults_after result (faults_of self.old) }
         ensures stray { strays_of self.new ≡ faults_after result (strays_of self.old) }
@@ -93,7 +95,8 @@ impl Files for GenFiles {
         ensures strays { strays_of self.new ≡ strays_of self.old }
         ensures directory { DirectoryStays (directory_of self.old) (directory_of self.new) }
         ensures slot { MatchResult result
-            (λ n. SlotMoves (Yields (take n buf.new)) (slot_at (slots_of self.old) slot) (slot_at (slots_of self.new) slot))
+            (λ n. SlotMoves (Yields (take n buf.new))
+            (slot_at (slots_of self.old) slot) (slot_at (slots_of self.new) slot))
             (λ _. SlotStays (slot_at (slots_of self.old) slot) (slot_at (slots_of self.new) slot)) }
         ensures others { OthersStay slot (slots_of self.old) (slots_of self.new) }
         ensures count { IfOk result (λ n. n ≤ length buf.old) }

@@ -13,7 +13,7 @@ pub(crate) struct GenPacket {
     pub len: u32,
 }
 
-// Knuth's constants for a linear congruential generator of 64 bits.
+// The constants of Knuth's MMIX, for a linear congruential generator of 64 bits.
 const MULTIPLIER: u64 = 6364136223846793005;
 
 const INCREMENT: u64 = 1442695040888963407;

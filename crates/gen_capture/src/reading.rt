@@ -104,7 +104,8 @@ fn read_script(at: &mut usize, buf: &mut [u8]) -> usize
 
 /// Reads on in a text, of which the place is one.
 pub(crate) fn read_on(place: &mut Place, count: u32, buf: &mut [u8]) -> usize
-    ensures placed { (seed : ℕ) → IsPlaced seed count (Some place.old) → IsPlaced seed count (Some place.new) }
+    ensures placed { (seed : ℕ) → IsPlaced seed count (Some place.old)
+        → IsPlaced seed count (Some place.new) }
     ensures yields { (seed : ℕ) → IsPlaced seed count (Some place.old)
         → Yields (take result buf.new) (cursor_in seed count place.old) (cursor_in seed count place.new) }
     ensures end { (seed : ℕ) → IsPlaced seed count (Some place.old) → 0 < length buf.old → result ≡ 0
@@ -122,8 +123,10 @@ pub(crate) fn read_on(place: &mut Place, count: u32, buf: &mut [u8]) -> usize
 pub(crate) fn put_place(places: &mut [Option<Place>], slot: usize, place: Option<Place>)
     requires slot { slot < 3 }
     requires three { length places.old ≡ 3 }
-    ensures here { (seed count : ℕ) → slot_at (slots_in seed count places.new) slot ≡ slot_in seed count place }
-    ensures others { (seed count : ℕ) → OthersStay slot (slots_in seed count places.old) (slots_in seed count places.new) }
+    ensures here { (seed count : ℕ) → slot_at (slots_in seed count places.new) slot
+        ≡ slot_in seed count place }
+    ensures others { (seed count : ℕ) → OthersStay slot
+        (slots_in seed count places.old) (slots_in seed count places.new) }
     ensures placed { (seed count : ℕ) → ArePlaced seed count places.old → IsPlaced seed count place
         → ArePlaced seed count places.new }
 {

@@ -13,5 +13,6 @@ returns-in-Script-clause-end c = λ seed placed room none.
 pub returns-in-Capture-clause-end : goal.returns-in-Capture-clause-end
 returns-in-Capture-clause-end c = λ seed placed room none.
     let here = rw c.in-Capture.is at placed in
-    let read = all_read (offset_of c.in-Capture.place) (capture_text seed c.args.count) (sym here ∙ c.read_capture.ensures.end room none) in
+    let none_left = sym here ∙ c.read_capture.ensures.end room none in
+    let read = all_read (offset_of c.in-Capture.place) (capture_text seed c.args.count) none_left in
     omega (arith, read, c.read_capture.ensures.offset)

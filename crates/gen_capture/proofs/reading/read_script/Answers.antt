@@ -7,7 +7,9 @@ pub returns-clause-next : goal.returns-clause-next
 unfolding script_text
 returns-clause-next c =
     c.copy_last-read.ensures.next
-    ∙ script_last c.args.at.now c.saturating_sub-left.result c.copy_last-read.result c.saturating_sub-left.ensures (omega (arith, c.copy_last-read.ensures.count))
+    ∙ script_last c.args.at.now c.saturating_sub-left.result c.copy_last-read.result c.saturating_sub-left.ensures
+    (omega (arith, c.copy_last-read.ensures.count))
 
 pub returns-clause-end : goal.returns-clause-end
-returns-clause-end c = λ room none. script_end c.args.at.now (omega (arith, room, none, c.copy_last-read.ensures.count))
+returns-clause-end c = λ room none.
+    script_end c.args.at.now (omega (arith, room, none, c.copy_last-read.ensures.count))

@@ -13,10 +13,12 @@ returns-clause-slot c =
     let three : length files.places ≡ 3 = search rules in
     let is : slice_index_or files.places slot None ≡ Some c.in-Some.place =
     get_or_default files.places slot None _ (omega (arith, c.requires.slot)) ∙ c.in-Some.is in
-    let old : slot_at (slots_in files.seed files.count files.places) slot ≡ slot_in files.seed files.count (Some c.in-Some.place) =
+    let old : slot_at (slots_in files.seed files.count files.places) slot
+    ≡ slot_in files.seed files.count (Some c.in-Some.place) =
     slot_of_place files.seed files.count slot files.places c.requires.slot ∙ ap (slot_in files.seed files.count) is in
     let placed = rw is at (files.placed slot) in
-    slot_moves files.seed files.count c.in-Some.place c.read_on-read.new.place _ _ old (c.put_place.ensures.here files.seed files.count)
+    slot_moves files.seed files.count c.in-Some.place c.read_on-read.new.place _ _ old
+    (c.put_place.ensures.here files.seed files.count)
     (c.read_on-read.ensures.yields files.seed placed)
 
 pub returns-clause-end : goal.returns-clause-end
