@@ -1,0 +1,11 @@
+//! Profiles: the shape of a switch and the key of its hash, read from TOML.
+#![tactic(auto)]
+
+mod faults;
+mod groups;
+mod profiles;
+mod reading;
+
+pub use faults::{ProfileFail, ProfileFault, ProfileKey};
+pub use profiles::{Profile, default_profile};
+pub use reading::read_profile;
