@@ -1,4 +1,4 @@
-use Rattle.std.proofs.Common.{◌≡◌, take, drop, All}
+use Rattle.std.proofs.Common.{◌≡◌, length, take, drop, All}
 use Rattle.addr_translate.specs.Geometry.{IsGroup}
 use Rattle.toml.specs.View.{items_view}
 use Rattle.sw_profile.specs.Profiles.{each_group}
@@ -8,6 +8,7 @@ use Rattle.sw_profile.proofs.groups.shape_of.Given as goal
 abbrev pub invariant-values : goal.invariant-values
 invariant-values l = record {
   same : ahead (take l.count l.groups) (each_group (items_view (drop l.value-index l.array.items))) ≡ each_group (items_view l.array.items);
+  places : length l.groups ≡ 12;
   counted : l.count ≡ l.value-index;
   each : All IsGroup (take l.count l.groups);
 }
