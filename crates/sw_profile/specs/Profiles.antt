@@ -1,12 +1,13 @@
 -- The profile that a TOML document describes, or its first fault.
-use Rattle.std.specs.Prelude.{◌≡◌, ℕ, ◌+◌, ◌≤◌, ◌&&◌, ◌==◌, Bool, true, not, nat_lt, nat_le, if◌then◌else◌, List, [], ◌∷◌, length, slice_index, Option, None, Some, is_some, ok_or, Result, Ok, Err, ℤ, pos, negsuc}
+use Rattle.std.specs.Prelude.{◌≡◌, ℕ, ◌≤◌, ◌==◌, nat_lt, if◌then◌else◌, List, [], ◌∷◌, length, Option, None, Some, ok_or, unwrap_or, Result, Ok, Err, ℤ, pos}
+use Rattle.std.specs.Option.{option_map_or, option_or}
+use Rattle.std.specs.Result.{result_ok}
 use Rattle.std.specs.Str.{IsUtf8, is_utf8}
 use Rattle.hex.specs.Hex.{decode_sized}
-use Rattle.hex.specs.declared.error.FromHexError.{FromHexError}
-use Rattle.toml.specs.Data.{Data, Items, no_items, item, Members, get_member, as_integer, as_str, as_array, as_table}
+use Rattle.toml.specs.Data.{Data, Items, no_items, item, Members, as_integer, as_str, as_array, as_table}
 use Rattle.toml.specs.Errors.{IsBlank}
 use Rattle.toml.specs.Parse.{parse_document}
-use Rattle.addr_translate.specs.Geometry.{Geometry, equal_geometry}
+use Rattle.addr_translate.specs.Geometry.{equal_geometry, no_group}
 use Rattle.addr_translate.specs.declared.shapes.GroupShape.{GroupShape}
 use Rattle.hash_units.specs.Keys.{standard_key}
 use Rattle.sw_profile.specs.declared.profiles.Profile.{Profile}
@@ -16,142 +17,73 @@ use Rattle.sw_profile.specs.declared.faults.ProfileFault.{ProfileFault}
 use Rattle.sw_profile.specs.declared.faults.ProfileFault.TheVariants as faults
 use Rattle.sw_profile.specs.declared.faults.ProfileFail.{ProfileFail}
 use Rattle.sw_profile.specs.declared.faults.ProfileFail.TheVariants as fails
-use Rattle.sw_profile.specs.Words.{name_of}
+use Rattle.sw_profile.specs.Keys.{Demand, first_fault, member_at, number, equal_keys, grouped_keys}
 
 -- the profile of a switch of which nothing is said
 abbrev pub standard_profile : Profile
 standard_profile = record { shape = equal_geometry 3 (record { cmus = 3; units = 3; bits = 10 }) 5; key = standard_key }
 
--- the second step, if the first found no fault
-infixl 10 ◌>>=◌
-abbrev pub ◌>>=◌ : {A B E : Type 0} → Result A E → (A → Result B E) → Result B E
-Ok x >>= f = f x
-Err e >>= f = Err e
+-- ---- what a table says, where it has no fault
 
--- ---- numbers at keys
+abbrev pub natural : Option ℤ → ℕ
+natural (Some (pos n)) = n
+natural other = 0
 
--- what stands at a key
-abbrev pub member_at : ProfileKey → Members → Option Data
-member_at key members = get_member (name_of key) members
+unfoldable pub number_at : ProfileKey → Members → ℕ
+number_at key members = option_map_or (λ found. natural (as_integer found)) (member_at key members) 0
 
--- an integer as a number from least to most
-abbrev pub within : ℕ → ℕ → ℤ → Option ℕ
-within least most (pos n) = if nat_le least n && nat_le n most then Some n else None
-within least most (negsuc n) = None
+-- two digits a byte
+abbrev pub bytes_by : Option (List ℕ) → List ℕ
+bytes_by None = []
+bytes_by (Some digits) = unwrap_or (result_ok (decode_sized digits 52)) []
 
-unfoldable pub number_in : ProfileKey → ℕ → ℕ → Data → Result ℕ ProfileFault
-number_in key least most found = do
-  integer ← ok_or (as_integer found) (faults.WrongType key)
-  ok_or (within least most integer) (faults.OutOfRange key)
+unfoldable pub hash_key_at : Members → List ℕ
+hash_key_at members = option_map_or (λ found. bytes_by (as_str found)) (member_at keys.HashKey members) standard_key
 
--- the number at a key, from least to most
-unfoldable pub number_at : ProfileKey → ℕ → ℕ → Members → Result ℕ ProfileFault
-number_at key least most members = do
-  found ← ok_or (member_at key members) (faults.Missing key)
-  number_in key least most found
+abbrev pub group_at : Members → GroupShape
+group_at members = record { cmus = number_at keys.Cmus members; units = number_at keys.Units members; bits = number_at keys.LogRegisters members }
 
--- the numbers at the keys of a list, each with its least and its greatest, or the first fault
-unfoldable pub numbers_at : List (ProfileKey × ℕ × ℕ) → Members → Result (List ℕ) ProfileFault
-numbers_at [] members = Ok []
-numbers_at (row ∷ rows) members = do
-  number ← number_at row.0 row.1 row.2 members
-  numbers ← numbers_at rows members
-  Ok (number ∷ numbers)
+abbrev pub group_in : Data → GroupShape
+group_in found = option_map_or group_at (as_table found) no_group
 
--- the keys of a group, whose arrays have at most 2 ^ most_bits registers
-abbrev pub group_keys : ℕ → List (ProfileKey × ℕ × ℕ)
-group_keys most_bits = (keys.Cmus, 1, 4) ∷ (keys.Units, 1, 4) ∷ (keys.LogRegisters, 5, most_bits) ∷ []
+abbrev pub each_group : Items → List GroupShape
+each_group no_items = []
+each_group (item d ds) = group_in d ∷ each_group ds
 
--- the group of the numbers at its keys
-abbrev pub group_by : List ℕ → GroupShape
-group_by numbers = record { cmus = slice_index numbers 0; units = slice_index numbers 1; bits = slice_index numbers 2 }
+abbrev pub groups_in : Data → List GroupShape
+groups_in found = option_map_or each_group (as_array found) []
 
-unfoldable pub group_at : ℕ → Members → Result GroupShape ProfileFault
-group_at most_bits members = do
-  numbers ← numbers_at (group_keys most_bits) members
-  Ok (group_by numbers)
+unfoldable pub groups_at : Members → List GroupShape
+groups_at members = option_map_or groups_in (member_at keys.Group members) []
 
--- ---- the key of the hash
+-- version 1: equal groups
+abbrev pub equal_profile : Members → Profile
+equal_profile members = record { shape = equal_geometry (number_at keys.Groups members) (group_at members) 5; key = hash_key_at members }
 
--- 104 hexadecimal digits of either case, as 52 bytes
-abbrev pub decoded : Result (List ℕ) FromHexError → Result (List ℕ) ProfileFault
-decoded (Ok bytes) = Ok bytes
-decoded (Err e) = Err faults.BadHashKey
+-- version 2: groups with tables of their own
+abbrev pub grouped_profile : Members → Profile
+grouped_profile members = record { shape = record { groups = groups_at members; split = number_at keys.LogBlocks members }; key = hash_key_at members }
 
--- the key may be missing
-unfoldable pub hash_key_in : Option Data → Result (List ℕ) ProfileFault
-hash_key_in None = Ok standard_key
-hash_key_in (Some found) = do
-  digits ← ok_or (as_str found) (faults.WrongType keys.HashKey)
-  decoded (decode_sized digits 52)
+-- ---- tables and texts
 
-abbrev pub hash_key_at : Members → Result (List ℕ) ProfileFault
-hash_key_at members = hash_key_in (member_at keys.HashKey members)
+abbrev pub version_keys : ℕ → List Demand
+version_keys version = if version == 1 then equal_keys else grouped_keys
 
--- ---- version 1: equal groups
+-- the first fault of a document's table
+abbrev pub fault_of : Members → Option ProfileFault
+fault_of members = option_or (number keys.Version 1 2 members) (first_fault (version_keys (number_at keys.Version members)) members)
 
-unfoldable pub equal_profile : Members → Result Profile ProfileFault
-equal_profile members = do
-  count ← number_at keys.Groups 1 12 members
-  group ← group_at 16 members
-  hash_key ← hash_key_at members
-  Ok (record { shape = equal_geometry count group 5; key = hash_key })
+-- what a table without a fault says
+abbrev pub said_by : Members → Profile
+said_by members = if number_at keys.Version members == 1 then equal_profile members else grouped_profile members
 
--- ---- version 2: each group has a table of its own
+abbrev pub judged : Option ProfileFault → Profile → Result Profile ProfileFault
+judged None profile = Ok profile
+judged (Some fault) profile = Err fault
 
-abbrev pub all_tables : Items → Bool
-all_tables no_items = true
-all_tables (item d ds) = is_some (as_table d) && all_tables ds
-
-abbrev pub item_count : Items → ℕ
-item_count no_items = 0
-item_count (item d ds) = 1 + item_count ds
-
-abbrev pub group_of : Data → Result GroupShape ProfileFault
-group_of found = do
-  members ← ok_or (as_table found) (faults.WrongType keys.Group)
-  group_at 20 members
-
--- the groups of the items in order, or the first fault
-abbrev pub each_group : Items → Result (List GroupShape) ProfileFault
-each_group no_items = Ok []
-each_group (item d ds) = do
-  group ← group_of d
-  groups ← each_group ds
-  Ok (group ∷ groups)
-
--- 1 to 12 tables
-abbrev pub groups_among : Items → Result (List GroupShape) ProfileFault
-groups_among items =
-    if not (all_tables items) then Err (faults.WrongType keys.Group)
-    else (if nat_le 1 (item_count items) && nat_le (item_count items) 12 then each_group items
-    else Err (faults.OutOfRange keys.Group))
-
-unfoldable pub groups_in : Data → Result (List GroupShape) ProfileFault
-groups_in found = do
-  items ← ok_or (as_array found) (faults.WrongType keys.Group)
-  groups_among items
-
--- groups with how finely each array is split
-abbrev pub with_split : ℕ → Result (List GroupShape) ProfileFault → Result Geometry ProfileFault
-with_split split (Ok groups) = Ok (record { groups = groups; split = split })
-with_split split (Err fault) = Err fault
-
-unfoldable pub grouped_profile : Members → Result Profile ProfileFault
-grouped_profile members = do
-  split ← number_at keys.LogBlocks 5 10 members
-  found ← ok_or (member_at keys.Group members) (faults.Missing keys.Group)
-  shape ← with_split split (groups_in found)
-  hash_key ← hash_key_at members
-  Ok (record { shape = shape; key = hash_key })
-
--- ---- texts
-
--- the profile of a document's table
+-- the profile of a document's table, or its first fault
 unfoldable pub profile_of : Members → Result Profile ProfileFault
-profile_of members = do
-  version ← number_at keys.Version 1 2 members
-  if version == 1 then equal_profile members else grouped_profile members
+profile_of members = judged (fault_of members) (said_by members)
 
 -- the table of a text, of at most 65,536 bytes
 unfoldable pub table_in : List ℕ → Result Members ProfileFault
@@ -160,17 +92,21 @@ table_in text =
     else (if is_utf8 text then ok_or (parse_document text) faults.NotToml
     else Err faults.NotToml)
 
--- the profile of a text
-unfoldable pub profile_in : List ℕ → Result Profile ProfileFault
-profile_in text = table_in text >>= profile_of
+abbrev pub profile_by : Result Members ProfileFault → Result Profile ProfileFault
+profile_by (Ok members) = profile_of members
+profile_by (Err fault) = Err fault
 
--- what is answered is what the text says, profile or fault; where memory ran out, it says nothing of that
+-- the profile of a text, or its first fault
+unfoldable pub profile_in : List ℕ → Result Profile ProfileFault
+profile_in text = profile_by (table_in text)
+
+-- what is answered is what the text says, profile or fault; where memory ran out, nothing is said
 abbrev pub Gives : Result Profile ProfileFail → Result Profile ProfileFault → Type 0
 Gives (Ok profile) said = said ≡ Ok profile
 Gives (Err (fails.Fault fault)) said = said ≡ Err fault
 Gives (Err fails.Memory) said = Unit {0}
 
--- the text is read for its table
+-- the text is read for its table, which may need memory
 pub record IsReadable (text : List ℕ) : Type 0 where
   pub short : length text ≤ 65536
   pub characters : IsUtf8 text

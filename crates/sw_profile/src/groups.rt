@@ -1,10 +1,12 @@
 //! Profiles of version 2, where each group has a table of its own.
 ghost use Rattle.std.specs.Prelude.{◌≡◌, ◌≤◌, IfOk, is_some, vec_len};
 ghost use Rattle.std.specs.List.{list_all};
+ghost use Rattle.std.specs.Result.{result_err};
 ghost use Rattle.addr_translate.specs.Geometry.{IsGroup};
-ghost use Rattle.toml.specs.Data.{as_table};
+ghost use Rattle.toml.specs.Data.{as_table, as_array};
 ghost use Rattle.toml.specs.View.{view, table_view, array_view};
-ghost use Rattle.sw_profile.specs.Profiles.{group_of, each_group, groups_among, groups_in, with_split, grouped_profile};
+ghost use Rattle.sw_profile.specs.Keys.{first_fault, table_fault, each_fault, items_fault, array_fault, grouped_keys};
+ghost use Rattle.sw_profile.specs.Profiles.{group_in, each_group, groups_in, grouped_profile};
 
 use crate::faults::{ProfileFault, ProfileKey};
 use crate::profiles::Profile;
@@ -13,9 +15,10 @@ use addr_translate::{GroupShape, MOST_GROUPS, Shape};
 use toml::{Table, Value};
 
 /// The profile of a table of version 2.
-#[tactic(auto, unfolding(crate::specs::Profiles::grouped_profile))]
+#[tactic(auto, unfolding(crate::specs::Keys::group_tables, crate::specs::Profiles::groups_at))]
 pub(crate) fn grouped_profile(table: &Table) -> Result<Profile, ProfileFault>
-    ensures { result ≡ grouped_profile (table_view table.now) }
+    ensures fault { result_err result ≡ first_fault grouped_keys (table_view table.now) }
+    ensures value { IfOk result (λ profile. profile ≡ grouped_profile (table_view table.now)) }
 {
     let key = ProfileKey::Group;
     let split = number_at(table, ProfileKey::LogBlocks, 5, 10)?;
@@ -28,11 +31,11 @@ pub(crate) fn grouped_profile(table: &Table) -> Result<Profile, ProfileFault>
 }
 
 /// The shape of the groups at a key.
-#[tactic(auto, unfolding(crate::specs::Profiles::groups_in))]
 fn shape_in(value: &Value, split: u32) -> Result<Shape, ProfileFault>
     requires least { 5 ≤ split }
     requires most { split ≤ 10 }
-    ensures { result ≡ with_split split (groups_in (view value.now)) }
+    ensures fault { result_err result ≡ array_fault (as_array (view value.now)) }
+    ensures value { IfOk result (λ shape. shape ≡ record { groups = groups_in (view value.now); split = split }) }
 {
     match value.as_array() {
         Some(array) => shape_among(array, split),
@@ -47,7 +50,8 @@ fn shape_in(value: &Value, split: u32) -> Result<Shape, ProfileFault>
 fn shape_among(array: &Vec<Value>, split: u32) -> Result<Shape, ProfileFault>
     requires least { 5 ≤ split }
     requires most { split ≤ 10 }
-    ensures { result ≡ with_split split (groups_among (array_view array.now)) }
+    ensures fault { result_err result ≡ items_fault (array_view array.now) }
+    ensures value { IfOk result (λ shape. shape ≡ record { groups = each_group (array_view array.now); split = split }) }
 {
     let key = ProfileKey::Group;
     if !are_tables(array) {
@@ -75,7 +79,8 @@ fn shape_of(array: &Vec<Value>, split: u32) -> Result<Shape, ProfileFault>
     requires most { split ≤ 10 }
     requires some { 1 ≤ vec_len array.now }
     requires few { vec_len array.now ≤ 12 }
-    ensures { result ≡ with_split split (each_group (array_view array.now)) }
+    ensures fault { result_err result ≡ each_fault (array_view array.now) }
+    ensures value { IfOk result (λ shape. shape ≡ record { groups = each_group (array_view array.now); split = split }) }
 {
     let mut groups = [GroupShape::UNUSED; MOST_GROUPS];
     let mut count = 0;
@@ -91,7 +96,8 @@ fn shape_of(array: &Vec<Value>, split: u32) -> Result<Shape, ProfileFault>
 
 /// The group of a table.
 fn group_of(value: &Value) -> Result<GroupShape, ProfileFault>
-    ensures value { result ≡ group_of (view value.now) }
+    ensures fault { result_err result ≡ table_fault (as_table (view value.now)) }
+    ensures value { IfOk result (λ group. group ≡ group_in (view value.now)) }
     ensures limits { IfOk result IsGroup }
 {
     match value.as_table() {

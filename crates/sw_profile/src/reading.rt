@@ -1,11 +1,13 @@
 //! The reading of a profile: keys, the version with equal groups, texts.
-ghost use Rattle.std.specs.Prelude.{◌≡◌, ◌≤◌, IfOk};
+ghost use Rattle.std.specs.Prelude.{◌≡◌, ◌≤◌, Some, IfOk};
 ghost use Rattle.std.specs.Option.{option_map};
+ghost use Rattle.std.specs.Result.{result_err};
 ghost use Rattle.addr_translate.specs.Geometry.{IsGroup};
-ghost use Rattle.hex.specs.Hex.{decode_sized};
+ghost use Rattle.toml.specs.Data.{as_integer};
 ghost use Rattle.toml.specs.View.{view, table_view};
 ghost use Rattle.sw_profile.specs.declared.faults.ProfileFail.TheVariants as fails;
-ghost use Rattle.sw_profile.specs.Profiles.{member_at, number_in, number_at, group_at, decoded, hash_key_at, equal_profile, profile_of, profile_in, Gives, IsReadable};
+ghost use Rattle.sw_profile.specs.Keys.{member_at, number_fault, number, digits_fault, hash_digits, group_keys, equal_keys, first_fault};
+ghost use Rattle.sw_profile.specs.Profiles.{natural, number_at, bytes_by, hash_key_at, group_at, equal_profile, profile_of, profile_in, Gives, IsReadable};
 
 use crate::faults::{ProfileFail, ProfileFault, ProfileKey};
 use crate::groups::grouped_profile;
@@ -60,9 +62,9 @@ fn profile_of(table: &Table) -> Result<Profile, ProfileFault>
 }
 
 /// The profile of a table of version 1.
-#[tactic(auto, unfolding(crate::specs::Profiles::equal_profile))]
 fn equal_profile(table: &Table) -> Result<Profile, ProfileFault>
-    ensures { result ≡ equal_profile (table_view table.now) }
+    ensures fault { result_err result ≡ first_fault equal_keys (table_view table.now) }
+    ensures value { IfOk result (λ profile. profile ≡ equal_profile (table_view table.now)) }
 {
     let count = number_at(table, ProfileKey::Groups, 1, 12)?;
     let group = group_at(table, 16)?;
@@ -74,10 +76,10 @@ fn equal_profile(table: &Table) -> Result<Profile, ProfileFault>
 }
 
 /// The group of a table, whose arrays have at most 2 to `most_bits` registers.
-#[tactic(auto, unfolding(crate::specs::Profiles::group_at, crate::specs::Profiles::numbers_at))]
 pub(crate) fn group_at(table: &Table, most_bits: u32) -> Result<GroupShape, ProfileFault>
     requires { most_bits ≤ 20 }
-    ensures value { result ≡ group_at most_bits (table_view table.now) }
+    ensures fault { result_err result ≡ first_fault (group_keys most_bits) (table_view table.now) }
+    ensures value { IfOk result (λ group. group ≡ group_at (table_view table.now)) }
     ensures limits { IfOk result IsGroup }
 {
     let cmus = number_at(table, ProfileKey::Cmus, 1, 4)?;
@@ -87,9 +89,10 @@ pub(crate) fn group_at(table: &Table, most_bits: u32) -> Result<GroupShape, Prof
 }
 
 /// The hash key of a table, or the default key.
-#[tactic(auto, unfolding(crate::specs::Profiles::hash_key_in))]
+#[tactic(auto, unfolding(crate::specs::Keys::hash_digits, crate::specs::Profiles::hash_key_at))]
 pub(crate) fn hash_key_at(table: &Table) -> Result<HashKey, ProfileFault>
-    ensures { result ≡ hash_key_at (table_view table.now) }
+    ensures fault { result_err result ≡ hash_digits (table_view table.now) }
+    ensures value { IfOk result (λ key. key ≡ hash_key_at (table_view table.now)) }
 {
     let key = ProfileKey::HashKey;
     match member_at(table, key) {
@@ -103,7 +106,8 @@ pub(crate) fn hash_key_at(table: &Table) -> Result<HashKey, ProfileFault>
 
 /// A hash key by its digits.
 fn key_by_digits(digits: &str) -> Result<HashKey, ProfileFault>
-    ensures { result ≡ decoded (decode_sized digits.now 52) }
+    ensures fault { result_err result ≡ digits_fault (Some digits.now) }
+    ensures value { IfOk result (λ key. key ≡ bytes_by (Some digits.now)) }
 {
     let mut bytes = [0; HASH_KEY_BYTES];
     match hex::decode_to_slice(digits, &mut bytes) {
@@ -113,14 +117,15 @@ fn key_by_digits(digits: &str) -> Result<HashKey, ProfileFault>
 }
 
 /// The number at a key, from `least` to `most`.
-#[tactic(auto, unfolding(crate::specs::Profiles::number_at))]
+#[tactic(auto, unfolding(crate::specs::Keys::number, crate::specs::Profiles::number_at))]
 pub(crate) fn number_at(
     table: &Table,
     key: ProfileKey,
     least: u32,
     most: u32,
 ) -> Result<u32, ProfileFault>
-    ensures value { result ≡ number_at key least most (table_view table.now) }
+    ensures fault { result_err result ≡ number key least most (table_view table.now) }
+    ensures value { IfOk result (λ n. n ≡ number_at key (table_view table.now)) }
     ensures least { IfOk result (λ n. least ≤ n) }
     ensures most { IfOk result (λ n. n ≤ most) }
 {
@@ -131,9 +136,9 @@ pub(crate) fn number_at(
 }
 
 /// A value as a number from `least` to `most`.
-#[tactic(auto, unfolding(crate::specs::Profiles::number_in))]
 fn number_in(value: &Value, key: ProfileKey, least: u32, most: u32) -> Result<u32, ProfileFault>
-    ensures value { result ≡ number_in key least most (view value.now) }
+    ensures fault { result_err result ≡ number_fault key least most (as_integer (view value.now)) }
+    ensures value { IfOk result (λ n. n ≡ natural (as_integer (view value.now))) }
     ensures least { IfOk result (λ n. least ≤ n) }
     ensures most { IfOk result (λ n. n ≤ most) }
 {
