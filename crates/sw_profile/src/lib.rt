@@ -3,6 +3,7 @@
 
 mod faults;
 mod groups;
+pub mod laws;
 mod profiles;
 mod reading;
 
