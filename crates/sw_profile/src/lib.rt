@@ -6,6 +6,8 @@ mod groups;
 pub mod laws;
 mod profiles;
 mod reading;
+#[cfg(test)]
+mod tests;
 
 pub use faults::{ProfileFail, ProfileFault, ProfileKey};
 pub use profiles::{Profile, default_profile};
