@@ -1,5 +1,5 @@
 -- The items of an array, and the groups found in them.
-use Rattle.std.proofs.Common.{◌≡◌, ℕ, List, [], ◌∷◌, length, is_some, refl, arith}
+use Rattle.std.proofs.Common.{◌≡◌, List, [], ◌∷◌, length, is_some, refl, arith}
 use Rattle.std.specs.List.{list_all}
 use Rattle.toml.specs.Data.{as_table}
 use Rattle.toml.specs.View.{view, items_view}

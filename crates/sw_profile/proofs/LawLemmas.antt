@@ -1,6 +1,6 @@
 -- The law of equal groups: what a table without a fault says, and the same said in groups.
-use Rattle.std.proofs.Common.{◌≡◌, ℕ, suc, ◌≤◌, ◌&&◌, true, false, List, [], ◌∷◌, replicate, Bool, Option, None, Some, Result, Ok, Err, ℤ, pos, negsuc, le-leb, sym, refl, ap, ◌∙◌, arith}
-use Rattle.std.specs.Prelude.{nat_le, if◌then◌else◌, is_some, option_and_then}
+use Rattle.std.proofs.Common.{◌≡◌, ℕ, ◌≤◌, ◌&&◌, true, false, replicate, Bool, Option, None, Some, Ok, ℤ, pos, negsuc, le-leb, refl, ap, ◌∙◌, arith}
+use Rattle.std.specs.Prelude.{nat_le, if◌then◌else◌, is_some}
 use Rattle.std.specs.Option.{option_or, option_map_or}
 use Rattle.std.proofs.lemmas.Bool.{and_parts, leb-true}
 use Rattle.toml.specs.Data.{Data, integer, array, Items, no_items, item, Members, as_integer, as_table}
@@ -10,9 +10,9 @@ use Rattle.sw_profile.specs.declared.faults.ProfileKey.{ProfileKey}
 use Rattle.sw_profile.specs.declared.faults.ProfileKey.TheVariants as keys
 use Rattle.sw_profile.specs.declared.faults.ProfileFault.{ProfileFault}
 use Rattle.sw_profile.specs.declared.faults.ProfileFault.TheVariants as faults
-use Rattle.sw_profile.specs.Keys.{member_at, first_fault, needed, is_within, number_fault, number, hash_digits, group_keys, table_fault, are_tables, item_count, each_fault, items_fault, group_tables, equal_keys, grouped_keys}
+use Rattle.sw_profile.specs.Keys.{member_at, first_fault, needed, number_fault, number, hash_digits, group_keys, table_fault, are_tables, item_count, each_fault, items_fault, group_tables, equal_keys, grouped_keys}
 use Rattle.sw_profile.specs.Profiles.{natural, number_at, hash_key_at, group_at, each_group, groups_at, equal_profile, grouped_profile, fault_of, said_by, judged, profile_of}
-use Rattle.sw_profile.specs.Laws.{Agree, IsGroupOf, IsTableOf, AreTablesOf, IsInGroups, EqualGroupsStay}
+use Rattle.sw_profile.specs.Laws.{Agree, IsGroupOf, IsTableOf, AreTablesOf, EqualGroupsStay}
 
 or_none : (one two : Option ProfileFault) → option_or one two ≡ None → (one ≡ None) × (two ≡ None)
 or_none None two h = (refl, h)

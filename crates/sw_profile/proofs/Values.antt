@@ -1,5 +1,5 @@
 -- Texts and what they say.
-use Rattle.std.proofs.Common.{◌≡◌, ℕ, ◌<◌, [], ◌∷◌, ◌++◌, List, codes, Ok, Err, length, replicate, refl}
+use Rattle.std.proofs.Common.{◌≡◌, ℕ, ◌<◌, [], ◌∷◌, ◌++◌, List, codes, Ok, Err, length, refl}
 use Rattle.std.proofs.lemmas.Bool.{lt-ltb}
 use Rattle.std.specs.Str.{is_utf8, chars}
 use Rattle.hex.proofs.OnLiterals.{hex_on_literals}
@@ -7,7 +7,6 @@ use Rattle.toml.proofs.OnLiterals.{toml_on_literals}
 use Rattle.addr_translate.specs.Geometry.{equal_geometry}
 use Rattle.hash_units.specs.Keys.{standard_key}
 use Rattle.sw_profile.specs.declared.faults.ProfileKey.TheVariants as keys
-use Rattle.sw_profile.specs.declared.faults.ProfileFault.{ProfileFault}
 use Rattle.sw_profile.specs.declared.faults.ProfileFault.TheVariants as faults
 use Rattle.sw_profile.specs.Words.{name_of, fault_text}
 use Rattle.sw_profile.specs.Keys.{number, hash_digits, group_tables}

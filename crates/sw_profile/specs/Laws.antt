@@ -1,5 +1,5 @@
 -- A law of profiles.
-use Rattle.std.specs.Prelude.{◌≡◌, ℕ, pos, Option, None, Some, Ok}
+use Rattle.std.specs.Prelude.{◌≡◌, pos, Option, None, Some, Ok}
 use Rattle.toml.specs.Data.{integer, array, Items, no_items, item, Members, as_table}
 use Rattle.sw_profile.specs.declared.profiles.Profile.{Profile}
 use Rattle.sw_profile.specs.declared.faults.ProfileKey.{ProfileKey}

@@ -76,13 +76,16 @@ fn faults(rt: HostRuntime) -> Result<(), Fail> {
 }
 
 /// The default key, with digits of both cases.
-const KEYED: &[u8] = b"version = 1\ngroups = 1\ncmus = 4\nunits = 2\nlog_registers = 16\nhash_key = \"6D5A56DA255B0EC24167253D43A38FB0D0CA2BCBAE7B30B477CB2DA38030F20C6a42b73bbeac01fa6d5a56da255b0ec24167253D\"\n";
+const KEYED: &[u8] =
+    b"version = 1\ngroups = 1\ncmus = 4\nunits = 2\nlog_registers = 16\nhash_key = \"6D5A56DA255B0EC24167253D43A38FB0D0CA2BCBAE7B30B477CB2DA38030F20C6a42b73bbeac01fa6d5a56da255b0ec24167253D\"\n";
 
 /// One digit fewer.
-const SHORT_KEY: &[u8] = b"version = 1\ngroups = 1\ncmus = 4\nunits = 2\nlog_registers = 16\nhash_key = \"6D5A56DA255B0EC24167253D43A38FB0D0CA2BCBAE7B30B477CB2DA38030F20C6a42b73bbeac01fa6d5a56da255b0ec24167253\"\n";
+const SHORT_KEY: &[u8] =
+    b"version = 1\ngroups = 1\ncmus = 4\nunits = 2\nlog_registers = 16\nhash_key = \"6D5A56DA255B0EC24167253D43A38FB0D0CA2BCBAE7B30B477CB2DA38030F20C6a42b73bbeac01fa6d5a56da255b0ec24167253\"\n";
 
 /// A digit that is none.
-const ODD_KEY: &[u8] = b"version = 1\ngroups = 1\ncmus = 4\nunits = 2\nlog_registers = 16\nhash_key = \"6D5A56DA255B0EC24167253D43A38FB0D0CA2BCBAE7B30B477CB2DA38030F20C6a42b73bbeac01fa6d5a56da255b0ec24167253G\"\n";
+const ODD_KEY: &[u8] =
+    b"version = 1\ngroups = 1\ncmus = 4\nunits = 2\nlog_registers = 16\nhash_key = \"6D5A56DA255B0EC24167253D43A38FB0D0CA2BCBAE7B30B477CB2DA38030F20C6a42b73bbeac01fa6d5a56da255b0ec24167253G\"\n";
 
 #[test]
 fn hash_keys(rt: HostRuntime) -> Result<(), Fail> {
@@ -123,14 +126,16 @@ fn profiles_of_both_versions(rt: HostRuntime) -> Result<(), Fail> {
         units: 4,
         bits: 20,
     };
-    let own = b"version = 2\nlog_blocks = 10\nname = \"two groups\"\n[[group]]\ncmus = 1\nunits = 1\nlog_registers = 5\n[[group]]\nlog_registers = 20\nunits = 4\ncmus = 2\n";
+    let own =
+        b"version = 2\nlog_blocks = 10\nname = \"two groups\"\n[[group]]\ncmus = 1\nunits = 1\nlog_registers = 5\n[[group]]\nlog_registers = 20\nunits = 4\ncmus = 2\n";
     let want = Profile {
         shape: Shape::of(&[one, two], 10),
         key: standard(),
     };
     assert!(rt; profile_in(rt.alloc(), own)? == want);
 
-    let equal = b"group = [{cmus = 1, units = 1, log_registers = 5}, {log_registers = 5, units = 1, cmus = 1}]\nlog_blocks = 5\nversion = 2\n";
+    let equal =
+        b"group = [{cmus = 1, units = 1, log_registers = 5}, {log_registers = 5, units = 1, cmus = 1}]\nlog_blocks = 5\nversion = 2\n";
     let first = b"version = 1\ngroups = 2\ncmus = 1\nunits = 1\nlog_registers = 5\n";
     assert!(rt; profile_in(rt.alloc(), equal)? == profile_in(rt.alloc(), first)?);
     Ok(())
