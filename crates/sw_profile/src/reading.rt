@@ -20,11 +20,11 @@ use toml::{Table, Value};
 /// How many bytes a profile has at most.
 const MOST_BYTES: usize = 65_536;
 
-/// Reads a profile of version 1 or 2. The text is one document of TOML.
+/// Reads a profile of version 1 or 2: one TOML document of at most 65,536 bytes.
 #[tactic(auto, using(crate::proofs::Texts::utf8), unfolding(crate::specs::Profiles::profile_in, crate::specs::Profiles::table_in))]
 pub fn read_profile(alloc: Global, text: &[u8]) -> Result<Profile, ProfileFail>
     ensures answer { Gives result (profile_in text.now) }
-    // that memory ran out is said of no text that needs none
+    // want of memory is answered only where a text is read for its table
     ensures memory { result ≡ Err fails.Memory → IsReadable text.now }
 {
     if text.len() > MOST_BYTES {
