@@ -105,6 +105,7 @@ pub(crate) fn hash_key_at(table: &Table) -> Result<HashKey, ProfileFault>
 }
 
 /// A hash key by its digits.
+#[tactic(auto, using(crate::proofs::DigitLemmas::digits_of_key))]
 fn key_by_digits(digits: &str) -> Result<HashKey, ProfileFault>
     ensures fault { result_err result ≡ digits_fault (Some digits.now) }
     ensures value { IfOk result (λ key. key ≡ bytes_by (Some digits.now)) }
