@@ -1,5 +1,5 @@
 -- Which strings are the digits of a hash key.
-use Rattle.std.proofs.Common.{◌≡◌, ℕ, ◌&&◌, ◌==◌, Bool, true, false, List, length, is_ok, refl, sym, arith}
+use Rattle.std.proofs.Common.{◌≡◌, ℕ, ◌&&◌, ◌==◌, Bool, true, false, List, length, is_ok, refl, sym}
 use Rattle.std.specs.List.{list_all}
 use Rattle.std.proofs.lemmas.Bool.{and_parts, eqb-true, eq-eqb}
 use Rattle.std.proofs.lemmas.List.Sums.{AllPass-from_list_all, list_all-from_AllPass}
@@ -18,8 +18,8 @@ digits_of_key digits =
     let (has_digits, has_bytes) = IsOk-decode_sized digits 52 in
     same_test _ _
     (λ h.
-      let (long, all) = and_parts (length digits == 104) (list_all is_hex_digit digits) h in
-      has_bytes (eqb-true (length digits) 104 long, AllPass-from_list_all is_hex_digit digits all))
+    let (long, all) = and_parts (length digits == 104) (list_all is_hex_digit digits) h in
+    has_bytes (eqb-true (length digits) 104 long, AllPass-from_list_all is_hex_digit digits all))
     (λ h.
-      let (long, all) = has_digits h in
-      rw (eq-eqb (length digits) 104 long, list_all-from_AllPass is_hex_digit digits all) refl)
+    let (long, all) = has_digits h in
+    rw (eq-eqb (length digits) 104 long, list_all-from_AllPass is_hex_digit digits all) refl)
