@@ -1,0 +1,5 @@
+mod DigitLemmas
+mod GroupLemmas
+mod LawLemmas
+mod Texts
+mod Values
