@@ -1,0 +1,2 @@
+//! The model of a switch: definitions and what holds of them.
+#![tactic(auto)]
