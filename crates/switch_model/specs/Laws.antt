@@ -1,7 +1,6 @@
 -- What holds of every switch.
-use Rattle.std.specs.Prelude.{◌≡◌, ◌≢◌, ℕ, ◌+◌, ◌^◌, ◌<◌, ◌≤◌, ◌==◌, ◌&&◌, Bool, true, false, nat_le, nat_lt, List, [], ◌∷◌, ◌++◌, map, Result, Ok, Err}
+use Rattle.std.specs.Prelude.{◌≡◌, ◌≢◌, ℕ, ◌+◌, ◌^◌, ◌==◌, ◌&&◌, Bool, true, false, nat_le, nat_lt, List, [], ◌∷◌, ◌++◌, map, Ok}
 use Rattle.std.specs.List.{All, AllPairs, list_any}
-use Rattle.addr_translate.specs.Blocks.{Block}
 use Rattle.addr_translate.specs.Geometry.{Geometry, IsGeometry}
 use Rattle.pkt_headers.specs.declared.packets.Packet.{Packet}
 use Rattle.reg_file.specs.declared.traits.Call.{Call}
@@ -9,7 +8,7 @@ use Rattle.reg_file.specs.Registers.{Contents}
 use Rattle.reg_file.specs.Calls.{all_made}
 use Rattle.sketch_defs.specs.Tasks.{Sketch}
 use Rattle.sketch_lower.specs.Operations.{start_of}
-use Rattle.switch_model.specs.Records.{Row, Record, outlines}
+use Rattle.switch_model.specs.Records.{Record, outlines}
 use Rattle.switch_model.specs.Sights.{Holding, live_holding}
 use Rattle.switch_model.specs.Soundness.{Sound}
 use Rattle.switch_model.specs.Changes.{Change, Add, Remove, Edit, Push, Move, Drop, Thaw, judged, edited_records}
