@@ -1,2 +1,4 @@
+pub mod IsolationLemmas
+pub mod JudgedLemmas
 pub mod ListLemmas
 pub mod Values

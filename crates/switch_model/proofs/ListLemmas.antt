@@ -244,3 +244,57 @@ pub mapped_edit : {X Y : Type 0} (g : X → Y) (f : X → X) (h : Y → Y) → (
 mapped_edit g f h same at [] = refl
 mapped_edit g f h same zero (x ∷ xs) = ap (λ y. y ∷ map g xs) (same x)
 mapped_edit g f h same (suc at) (x ∷ xs) = ap (λ ys. g x ∷ ys) (mapped_edit g f h same at xs)
+
+pub length_map : {X Y : Type 0} (f : X → Y) (xs : List X) → length (map f xs) ≡ length xs
+length_map f [] = refl
+length_map f (x ∷ xs) = ap suc (length_map f xs)
+
+pub map_append : {X Y : Type 0} (f : X → Y) (xs ys : List X) → map f (xs ++ ys) ≡ map f xs ++ map f ys
+map_append f [] ys = refl
+map_append f (x ∷ xs) ys = ap (λ zs. f x ∷ zs) (map_append f xs ys)
+
+map_take : {X Y : Type 0} (f : X → Y) (n : ℕ) (xs : List X) → map f (take n xs) ≡ take n (map f xs)
+map_take f zero [] = refl
+map_take f zero (x ∷ xs) = refl
+map_take f (suc n) [] = refl
+map_take f (suc n) (x ∷ xs) = ap (λ zs. f x ∷ zs) (map_take f n xs)
+
+map_drop : {X Y : Type 0} (f : X → Y) (n : ℕ) (xs : List X) → map f (drop n xs) ≡ drop n (map f xs)
+map_drop f zero [] = refl
+map_drop f zero (x ∷ xs) = refl
+map_drop f (suc n) [] = refl
+map_drop f (suc n) (x ∷ xs) = map_drop f n xs
+
+pub map_remove : {X Y : Type 0} (f : X → Y) (xs : List X) (at : ℕ) → map f (remove xs at) ≡ remove (map f xs) at
+map_remove f xs at = map_append f (take at xs) (drop (suc at) xs) ∙ ap₂ (λ ys zs. ys ++ zs) (map_take f at xs) (map_drop f (suc at) xs)
+
+-- the parts of a mapped list are mapped parts
+pub record Split {X Y : Type 0} (f : X → Y) (xs : List X) (ys : List Y) (y : Y) (zs : List Y) : Type 0 where
+  pub front : List X
+  pub one : X
+  pub back : List X
+  pub is : xs ≡ front ++ one ∷ back
+  pub fronts : map f front ≡ ys
+  pub heres : f one ≡ y
+  pub backs : map f back ≡ zs
+
+pub split_map : {X Y : Type 0} (f : X → Y) (xs : List X) (ys : List Y) (y : Y) (zs : List Y) → map f xs ≡ ys ++ y ∷ zs → Split f xs ys y zs
+split_map f [] [] y zs e = absurd (cc)
+split_map f [] (z ∷ ys) y zs e = absurd (cc)
+split_map f (x ∷ xs) [] y zs e =
+    let here : f x ≡ y = cc in
+    let rest : map f xs ≡ zs = cc in
+    record { front = []; one = x; back = xs; is = refl; fronts = refl; heres = here; backs = rest }
+split_map f (x ∷ xs) (z ∷ ys) y zs e =
+    let here : f x ≡ z = cc in
+    let rest : map f xs ≡ ys ++ y ∷ zs = cc in
+    let more : Split f xs ys y zs = split_map f xs ys y zs rest in
+    record {
+      front = x ∷ more.front;
+      one = more.one;
+      back = more.back;
+      is = ap (λ ws. x ∷ ws) more.is;
+      fronts = ap₂ (λ w ws. w ∷ ws) here more.fronts;
+      heres = more.heres;
+      backs = more.backs;
+    }
