@@ -298,3 +298,15 @@ split_map f (x ∷ xs) (z ∷ ys) y zs e =
       heres = more.heres;
       backs = more.backs;
     }
+
+pub position_here : {X : Type 0} (test : X → Bool) (front back : List X) (x : X) → All (λ y. test y ≡ false) front → test x ≡ true
+    → position test (front ++ x ∷ back) ≡ Some (length front)
+position_here {X} test front back x none here =
+    ap (λ (n : ℕ). cond (nat_lt n (length (front ++ x ∷ back))) (Some n) None) (first front none)
+    ∙ ap (λ (b : Bool). cond b (Some (length front)) None)
+      (lt-ltb (length front) (length (front ++ x ∷ back)) (let long : length (front ++ x ∷ back) ≡ length front + length (x ∷ back) = length-append front (x ∷ back) in omega arith)) where
+      first : (front : List X) → All (λ y. test y ≡ false) front → position_or_len test (front ++ x ∷ back) ≡ length front
+      first [] none = ap (λ (b : Bool). cond (not b) (1 + position_or_len test back) 0) here
+      first (y ∷ front) none =
+          ap (λ (b : Bool). cond (not b) (1 + position_or_len test (front ++ x ∷ back)) 0) (All-head (λ y. test y ≡ false) y front none)
+          ∙ (let rest : position_or_len test (front ++ x ∷ back) ≡ length front = first front (All-tail (λ y. test y ≡ false) y front none) in omega arith)
