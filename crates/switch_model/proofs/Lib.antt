@@ -1,3 +1,4 @@
+pub mod CallLemmas
 pub mod IsolationLemmas
 pub mod JudgedLemmas
 pub mod ListLemmas
