@@ -1,5 +1,5 @@
 //! Whether rows can move to another size on the arrays on which they stand.
-ghost use Rattle.std.specs.Prelude.{◌≡◌, ◌≢◌, ◌<◌, ◌≤◌, All, MatchResult, None, Some, length, not, is_some};
+ghost use Rattle.std.specs.Prelude.{◌≡◌, ◌≢◌, ◌<◌, ◌≤◌, All, IfSome, MatchResult, None, Some, length, not, is_some};
 ghost use Rattle.std.specs.List.{AllPairs, position};
 ghost use Rattle.partition_pool.specs.Pools.{least_bits};
 ghost use Rattle.placer.specs.Sights.{region_in};
@@ -27,9 +27,18 @@ pub fn plan_resize(pools: &[Pool], arrays: &[u32], bits: u32) -> Result<(), NoRo
 /// The place of the first array that has no free partition of `2^bits` registers.
 fn full_row(pools: &[Pool], arrays: &[u32], bits: u32) -> Option<usize>
     requires { All (λ array. array < length pools.now) arrays.now }
-    ensures { result ≡ first_full pools.now bits arrays.now }
+    ensures row { result ≡ first_full pools.now bits arrays.now }
+    ensures exists { IfSome result (λ row. row < length arrays.now) }
 {
-    arrays.iter().position(|array| free_in(&pools[*array as usize], bits).is_none())
+    arrays.iter().position(|array| is_full(pools, *array, bits))
+}
+
+/// Whether the array has no free partition of `2^bits` registers.
+fn is_full(pools: &[Pool], array: u32, bits: u32) -> bool
+    requires { array < length pools.now }
+    ensures { result ≡ is_full pools.now bits array }
+{
+    free_in(&pools[array as usize], bits).is_none()
 }
 
 /// The free partition of `2^bits` registers with the least base; none in a pool that has no

@@ -1,9 +1,13 @@
 //! The sizes that rows may have.
-ghost use Rattle.std.specs.Prelude.{◌≡◌, ◌-◌, ◌≤◌, IfSome, fold, map, min};
+ghost use Rattle.std.specs.Prelude.{◌≡◌, ◌-◌, ◌≤◌, ◌<◌, ◌==◌, ◌&&◌, ◌^◌, IfSome, fold, map, min};
+ghost use Rattle.std.specs.List.{find, range_with_len};
 ghost use Rattle.placer.specs.Sights.{bits_for, least_cells, may_have, smallest_bits};
 
 use addr_translate::{GroupShape, Shape};
 use sketch_defs::Kind;
+
+/// An array has at most 2 to this many registers.
+const MOST_BITS: u32 = 20;
 
 /// The bits of a size that rows of this kind may have, 0 to 20; none where they may not have it: it
 /// is no power of two, or smaller than each partition of the switch, or greater than each, or under
@@ -13,7 +17,24 @@ pub fn size_bits(shape: &Shape, kind: Kind, size: u32) -> Option<u32>
     ensures bits { result ≡ bits_for shape.now kind size }
     ensures few { IfSome result (λ bits. bits ≤ 20) }
 {
-    (0..21).find(|bits| may_have(shape, kind, *bits) && 1 << *bits == size)
+    bits_below(shape, kind, size, MOST_BITS + 1)
+}
+
+/// The first of so many numbers that are the bits of the size.
+fn bits_below(shape: &Shape, kind: Kind, size: u32, count: u32) -> Option<u32>
+    requires { count ≤ 21 }
+    ensures bits { result ≡ find (λ bits. may_have shape.now kind bits && 2 ^ bits == size) (range_with_len 0 count) }
+    ensures few { IfSome result (λ bits. bits < count) }
+{
+    (0..count).find(|bits| is_size(shape, kind, *bits, size))
+}
+
+/// Whether rows of the kind may have this size, and it has these bits.
+fn is_size(shape: &Shape, kind: Kind, bits: u32, size: u32) -> bool
+    requires { bits ≤ 20 }
+    ensures { result ≡ (may_have shape.now kind bits && 2 ^ bits == size) }
+{
+    may_have(shape, kind, bits) && 1 << bits == size
 }
 
 /// Whether rows of the kind may have `2^bits` cells.
