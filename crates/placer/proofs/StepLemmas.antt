@@ -1,15 +1,18 @@
 -- Arrays are counted one at a time: what one array more adds.
-use Rattle.std.proofs.Common.{◌≡◌, ℕ, zero, suc, ◌+◌, ◌<◌, ◌≤◌, ◌==◌, ◌&&◌, ◌||◌, Bool, true, false, not, cond, if◌then◌else◌, nat_lt, eqb, List, [], ◌∷◌, ◌++◌, length, take, filter, Option, None, Some, is_some, Result, Ok, Err, refl, ap, sym, ◌∙◌, subst, inl, inr, ◌⊎◌, arith, add-one, append-nil}
+use Rattle.std.proofs.Common.{◌≡◌, ℕ, zero, suc, ◌+◌, ◌<◌, ◌≤◌, ◌==◌, ◌&&◌, ◌||◌, Bool, true, false, not, cond, if◌then◌else◌, nat_lt, eqb, List, [], ◌∷◌, ◌++◌, length, take, filter, Option, None, Some, is_some, Result, Ok, Err, refl, ap, ap₂, sym, ◌∙◌, subst, inl, inr, ◌⊎◌, arith, add-one, append-nil}
 use Rattle.std.specs.List.{All, list_any, filter_map, cons_option, range_with_len}
 use Rattle.std.proofs.lemmas.Bool.{eqb-true, eqb-false, ne_eqb, eq-eqb, ltb-true, ltb-false, lt-ltb, le-ltb, or_parts, cases_lt}
 use Rattle.std.proofs.lemmas.List.{take_all, take-append-le, length-take, length-take-le}
 use Rattle.std.proofs.lemmas.List.Elements.{filter-append, filter_map-append}
+use Rattle.addr_translate.specs.Geometry.{Geometry, array_count, group_number}
+use Rattle.sketch_defs.specs.Tasks.{Sketch}
 use Rattle.sketch_defs.specs.declared.kinds.Kind.{Kind}
 use Rattle.sketch_defs.specs.declared.kinds.Kind.TheVariants.{Cms, SumaxSum, SumaxMax, Bloom, Mrac, Hll, FlagOr, FlagAnd}
 use Rattle.placer.specs.declared.places.Place.{Place}
 use Rattle.placer.specs.declared.places.Refusal.{Refusal}
 use Rattle.placer.specs.declared.places.Refusal.TheVariants.{NoUnit, NoPartition}
-use Rattle.placer.specs.Placement.{first_of_groups, counted}
+use Rattle.placer.specs.Sights.{Sight}
+use Rattle.placer.specs.Placement.{first_of_groups, counted, is_open, place_on, open_arrays, places_for, placed}
 use Rattle.placer.specs.Steps.{is_chained, is_there, with_one, judged}
 
 -- ---- the first of each group, with one element more
@@ -205,3 +208,16 @@ judged_is need arrays places = by (nat_lt (length arrays) need) (nat_lt (length 
   by false false e d =
       ap (λ b. if b then Err (NoUnit need (length (take need arrays))) else later) (length_short need arrays ∙ e)
       ∙ ap (λ b. if b then Err (NoPartition need (length (take need places))) else Ok (take need places)) (length_short need places ∙ d)
+
+pub placed_judged : (geometry : Geometry) (sight : Sight) (task : Sketch) (bits count need : ℕ) (arrays : List ℕ) (places : List Place)
+    → count ≡ array_count geometry → need ≡ task.rows
+    → arrays ≡ take task.rows (counted task.kind (group_number geometry) (filter (is_open geometry sight task) (range_with_len 0 count)))
+    → places ≡ take task.rows (counted task.kind (λ place. group_number geometry place.array) (filter_map (place_on geometry sight task bits) (range_with_len 0 count)))
+    → judged need arrays places ≡ placed geometry sight task bits
+unfolding placed open_arrays places_for
+placed_judged geometry sight task bits count need arrays places all rows a p =
+    ap₂ (λ n ns. judged n ns places) rows
+    (a ∙ ap (λ n. take task.rows (counted task.kind (group_number geometry) (filter (is_open geometry sight task) (range_with_len 0 n)))) all)
+    ∙ ap (λ ps. judged task.rows (take task.rows (open_arrays geometry sight task)) ps)
+    (p ∙ ap (λ n. take task.rows (counted task.kind (λ place. group_number geometry place.array) (filter_map (place_on geometry sight task bits) (range_with_len 0 n)))) all)
+    ∙ judged_is task.rows (open_arrays geometry sight task) (places_for geometry sight task bits)
