@@ -38,7 +38,7 @@ pub fn plan(
     ensures { IfSome (bits_for shape task.now.kind task.now.size)
         (λ bits. result ≡ placed shape (sight_in tables.now units.now pools.now) task.now bits) }
 {
-    let bits = match size_bits(&shape, task.kind(), task.size()) {
+    let bits = match size_bits(shape, task.kind(), task.size()) {
         Some(bits) => bits,
         None => unreachable!(),
     };
@@ -82,8 +82,8 @@ fn place_of(array: u32, keys: Option<KeyUse>, region: Option<Region>) -> Option<
     }
 }
 
-#[tactic(auto, unfolding(crate::specs::Steps::with_one))]
 /// With the array, where it is open and one more counts.
+#[tactic(auto, unfolding(crate::specs::Steps::with_one))]
 fn put_open(arrays: &mut ArrayVec<u32, 4>, shape: &Shape, task: &Task, array: u32, is_open: bool)
     requires array { array < array_count shape.now }
     requires exist { All (λ other. other < array_count shape.now) arrays.old.items }
@@ -99,8 +99,8 @@ fn put_open(arrays: &mut ArrayVec<u32, 4>, shape: &Shape, task: &Task, array: u3
     put(arrays, task.rows(), array);
 }
 
-#[tactic(auto, unfolding(crate::specs::Steps::with_one))]
 /// With the place, where there is one and one more counts.
+#[tactic(auto, unfolding(crate::specs::Steps::with_one))]
 fn put_place(places: &mut ArrayVec<Place, 4>, shape: &Shape, task: &Task, place: Option<Place>)
     requires array { IfSome place (λ place. place.array < array_count shape.now) }
     requires exist { All (λ other. other.array < array_count shape.now) places.old.items }
@@ -112,8 +112,8 @@ fn put_place(places: &mut ArrayVec<Place, 4>, shape: &Shape, task: &Task, place:
     }
 }
 
-#[tactic(auto, unfolding(crate::specs::Steps::with_one))]
 /// With the place, where one more counts.
+#[tactic(auto, unfolding(crate::specs::Steps::with_one))]
 fn put_there(places: &mut ArrayVec<Place, 4>, shape: &Shape, task: &Task, place: Place)
     requires array { place.array < array_count shape.now }
     requires exist { All (λ other. other.array < array_count shape.now) places.old.items }

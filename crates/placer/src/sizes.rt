@@ -13,11 +13,11 @@ const MOST_BITS: u32 = 20;
 /// is no power of two, or smaller than each partition of the switch, or greater than each, or under
 /// 16 for HyperLogLog.
 #[tactic(auto, unfolding(crate::specs::Sights::bits_for))]
-pub fn size_bits(shape: &Shape, kind: Kind, size: u32) -> Option<u32>
-    ensures bits { result ≡ bits_for shape.now kind size }
+pub fn size_bits(shape: Shape, kind: Kind, size: u32) -> Option<u32>
+    ensures bits { result ≡ bits_for shape kind size }
     ensures few { IfSome result (λ bits. bits ≤ 20) }
 {
-    bits_below(shape, kind, size, MOST_BITS + 1)
+    bits_below(&shape, kind, size, MOST_BITS + 1)
 }
 
 /// The first of so many numbers that are the bits of the size.
