@@ -1,3 +1,4 @@
 pub mod LookLemmas
 pub mod PlacementLemmas
+pub mod SightLemmas
 pub mod StepLemmas
