@@ -40,7 +40,7 @@ frozen_regions part past i (row ∷ rows) =
     one_frozen part past i row row.frozen (filter_map frozen_holding rows) (frozen_stands part past (i + 1) rows) (frozen_regions part past (i + 1) rows)
 
 -- rows of a task that froze nothing have frozen nothing
-none_frozen : (rows : List Row) → All (λ (row : Row). row.frozen ≡ None) rows → filter_map frozen_holding rows ≡ []
+pub none_frozen : (rows : List Row) → All (λ (row : Row). row.frozen ≡ None) rows → filter_map frozen_holding rows ≡ []
 none_frozen [] none = refl
 none_frozen (row ∷ rows) none =
     ap (λ frozen. cons_option (frozen_in row.array frozen) (filter_map frozen_holding rows)) (All-head (λ (row : Row). row.frozen ≡ None) row rows none)
