@@ -1,5 +1,6 @@
 pub mod AddLemmas
 pub mod CallLemmas
+pub mod EditLemmas
 pub mod IsolationLemmas
 pub mod JudgedLemmas
 pub mod ListLemmas

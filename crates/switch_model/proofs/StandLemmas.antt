@@ -46,7 +46,7 @@ none_frozen (row ∷ rows) none =
     ap (λ frozen. cons_option (frozen_in row.array frozen) (filter_map frozen_holding rows)) (All-head (λ (row : Row). row.frozen ≡ None) row rows none)
     ∙ none_frozen rows (All-tail (λ (row : Row). row.frozen ≡ None) row rows none)
 
-no_size : (frozen : Option Block) → option_map size_of frozen ≡ None → frozen ≡ None
+pub no_size : (frozen : Option Block) → option_map size_of frozen ≡ None → frozen ≡ None
 no_size None e = refl
 no_size (Some region) e = cc
 
