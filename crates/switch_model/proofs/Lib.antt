@@ -6,6 +6,7 @@ pub mod JudgedLemmas
 pub mod ListLemmas
 pub mod RestorationLemmas
 pub mod SightLemmas
+pub mod SoundLemmas
 pub mod StandLemmas
 pub mod UnitLemmas
 pub mod Values
