@@ -183,7 +183,7 @@ array_hit f there contents array addr from (suc n) low high =
 -- ---- the registers of one row
 
 -- an operation on a region apart from another misses it
-apart_misses : (one two : Block) (x j : ℕ) → are_apart one two ≡ true → x < 2 ^ one.bits → j < 2 ^ two.bits → one.base + x ≢ two.base + j
+pub apart_misses : (one two : Block) (x j : ℕ) → are_apart one two ≡ true → x < 2 ^ one.bits → j < 2 ^ two.bits → one.base + x ≢ two.base + j
 apart_misses one two x j apart first second = by (nat_le (one.base + 2 ^ one.bits) two.base) (nat_le (two.base + 2 ^ two.bits) one.base) refl refl apart where
   by : (a b : Bool) → nat_le (one.base + 2 ^ one.bits) two.base ≡ a → nat_le (two.base + 2 ^ two.bits) one.base ≡ b → (a || b) ≡ true
       → one.base + x ≢ two.base + j

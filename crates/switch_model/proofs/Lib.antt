@@ -1,8 +1,10 @@
 pub mod AddLemmas
+pub mod AnySizeLemmas
 pub mod CallLemmas
 pub mod EditLemmas
 pub mod IsolationLemmas
 pub mod JudgedLemmas
+pub mod LayoutLemmas
 pub mod ListLemmas
 pub mod RestorationLemmas
 pub mod SightLemmas
