@@ -336,6 +336,23 @@ news_agree_with geometry all task bits found are each =
       subst (λ (us : List GroupUse). Across AgreeOnUnits us uses) (sym (row_uses_are geometry all task p h.exists))
       (uses_agree geometry uses task.key (group_number geometry p.array) p.keys are h.keys)))
 
+-- its regions share no register with what is held
+pub news_apart : (geometry : Geometry) (all : List Outline) (task : Sketch) (bits : ℕ) (found : List Place) → All (Placing geometry all task bits) found
+    → Across ShareNone (map live_holding (map (row_at geometry (sight_of geometry all) task) found)) (all_held all)
+news_apart geometry all task bits found each =
+    let row : Place → Row = row_at geometry (sight_of geometry all) task in
+    All-map (λ h. All (ShareNone h) (all_held all)) live_holding (map row found)
+    (All-map (λ r. All (ShareNone (live_holding r)) (all_held all)) row found
+    (λ k d within.
+      let place : Place = get_or found k d in
+      let p : Placing geometry all task bits place = each k d within in
+      free_of_all (all_held all) place.array place.region (sym (ap (λ ts. is_free ts place.region) (taken_seen geometry all place.array p.exists)) ∙ p.free)))
+
+pub all_placed : (geometry : Geometry) (all : List Outline) (task : Sketch) (bits : ℕ) (found : List Place) → IsGeometry geometry
+    → ArePlaces geometry (sight_of geometry all) task bits found → All (Placing geometry all task bits) found
+all_placed geometry all task bits found good places k d within =
+    placing geometry all task bits (get_or found k d) good (places.exist k d within) (places.stand k d within)
+
 pub sound_pushed : (geometry : Geometry) (all : List Outline) (task : Sketch) (bits : ℕ) (found : List Place) → IsGeometry geometry → Sound geometry all
     → first_fault task ≡ None → bits_for geometry task.kind task.size ≡ Some bits → ArePlaces geometry (sight_of geometry all) task bits found
     → AllPairs HaveOwnNames (all ++ new_outline task (map (row_at geometry (sight_of geometry all) task) found) ∷ [])
@@ -348,7 +365,7 @@ sound_pushed geometry all task bits found good sound possible size_ places names
     let are : AreUses geometry uses = sound_uses geometry all sound in
     let size : IsSize geometry task.kind task.size bits = size_is geometry task.kind task.size bits size_ in
     let each : All (Placing geometry all task bits) found =
-    (λ k d within. placing geometry all task bits (get_or found k d) good (places.exist k d within) (places.stand k d within)) in
+    all_placed geometry all task bits found good places in
     let different : AllPairs OnDifferent rows =
     pairs_map OnDifferent (row_at geometry sight task) found
     (pairs_weaker (λ (one two : Place). one.array < two.array) (λ (one two : Place). one.array ≢ two.array) (λ one two less same. omega arith) found places.rise) in
@@ -368,12 +385,7 @@ sound_pushed geometry all task bits found good sound possible size_ places names
       regions = subst (AllPairs ShareNone) (sym (held_pushed all o ∙ ap (λ hs. all_held all ++ hs) (held_new geometry sight task found)))
           (pairs_append ShareNone (all_held all) (map live_holding rows) sound.regions (different_regions rows different)
           (across_turned ShareNone ShareNone share_turned (map live_holding rows) (all_held all)
-          (All-map (λ h. All (ShareNone h) (all_held all)) live_holding rows
-          (All-map (λ row. All (ShareNone (live_holding row)) (all_held all)) (row_at geometry sight task) found
-          (λ k d within.
-            let place : Place = get_or found k d in
-            let p : Placing geometry all task bits place = each k d within in
-            free_of_all (all_held all) place.array place.region (sym (ap (λ ts. is_free ts place.region) (taken_seen geometry all place.array p.exists)) ∙ p.free))))));
+          (news_apart geometry all task bits found each)));
       filters = subst (AllPairs MatchNone) (sym (spots_pushed all o))
           (pairs_append MatchNone (all_spots all) (spots_by o) sound.filters (different_spots task rows different)
           (across_turned (λ s t. MatchNone t s) MatchNone (λ s t m. m) (spots_by o) (all_spots all)

@@ -269,6 +269,21 @@ moved_is geometry all bits o p row is m size key frozen = subst (IsRow geometry 
   key = subst (GiveKey row.masks) (sym key) is.key;
 })
 
+pub all_moving : (geometry : Geometry) (all : List Outline) (bits : ℕ) (o : Outline) (rows : List Row) → IsGeometry geometry → All (IsRow geometry o) rows
+    → All (HasRegion geometry (sight_of geometry all) bits) rows → All (Moving geometry all bits) rows
+all_moving geometry all bits o rows good each has k d within =
+    moving geometry all bits (get_or rows k d) good (let h : IsRow geometry o (get_or rows k d) = each k d within in h.array) (has k d within)
+
+-- the new regions share no register with what is held
+pub moved_apart : (geometry : Geometry) (all : List Outline) (bits : ℕ) (rows : List Row) → All (Moving geometry all bits) rows
+    → Across ShareNone (map live_holding (map (moved_by geometry (sight_of geometry all) bits) rows)) (all_held all)
+moved_apart geometry all bits rows each =
+    let f : Row → Row = moved_by geometry (sight_of geometry all) bits in
+    All-map (λ h. All (ShareNone h) (all_held all)) live_holding (map f rows)
+    (All-map (λ row. All (ShareNone (live_holding row)) (all_held all)) f rows
+    (All-weaker (Moving geometry all bits) (λ row. All (ShareNone (live_holding (f row))) (all_held all))
+    (λ row m. subst (λ (r : Row). All (ShareNone (live_holding r)) (all_held all)) (sym m.is) m.apart) rows each))
+
 pub sound_moved : (geometry : Geometry) (front back : List Outline) (o : Outline) (bits size : ℕ) (news : List Row) → IsGeometry geometry
     → Sound geometry (front ++ o ∷ back) → is_some o.frozen ≡ false → bits_for geometry o.task.kind size ≡ Some bits
     → moved_rows geometry (sight_of geometry (front ++ o ∷ back)) bits 0 o.rows ≡ Ok news
@@ -283,7 +298,7 @@ sound_moved geometry front back o bits size news good sound free fits moves =
     let is : IsTask geometry o = all_here (IsTask geometry) front back o sound.tasks in
     let size_ : IsSize geometry o.task.kind size bits = size_is geometry o.task.kind size bits fits in
     let each : All (Moving geometry all bits) o.rows =
-    (λ k d within. moving geometry all bits (get_or o.rows k d) good (let h : IsRow geometry o (get_or o.rows k d) = is.each k d within in h.array) (are.each k d within)) in
+    all_moving geometry all bits o o.rows good is.each are.each in
     let live : List Holding = map live_holding o.rows in
     let fresh : List Holding = map live_holding (map f o.rows) in
     let none : filter_map frozen_holding o.rows ≡ [] =
@@ -295,11 +310,7 @@ sound_moved geometry front back o bits size news good sound free fits moves =
     let different : AllPairs OnDifferent (map f o.rows) =
     pairs_map OnDifferent f o.rows (pairs_weaker (RisesIn geometry o.task.kind) (λ one two. OnDifferent (f one) (f two)) (λ one two r. rises_differ geometry o.task.kind one two r) o.rows is.rising) in
     let apart : Across ShareNone fresh (all_held front ++ (live ++ all_held back)) =
-    subst (Across ShareNone fresh) held_is
-    (All-map (λ h. All (ShareNone h) (all_held all)) live_holding (map f o.rows)
-    (All-map (λ row. All (ShareNone (live_holding row)) (all_held all)) f o.rows
-    (All-weaker (Moving geometry all bits) (λ row. All (ShareNone (live_holding (f row))) (all_held all))
-    (λ row m. subst (λ (r : Row). All (ShareNone (live_holding r)) (all_held all)) (sym m.is) m.apart) o.rows each))) in
+    subst (Across ShareNone fresh) held_is (moved_apart geometry all bits o.rows each) in
     subst (λ (rows : List Row). Sound geometry (front ++ moved_outline task rows o ∷ back)) (sym are.are)
     (sound_edited geometry front back o p sound refl
     (record {
