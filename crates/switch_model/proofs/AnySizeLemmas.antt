@@ -41,7 +41,7 @@ unfolding independent_cell
 same_cell gathering hash_key task size bits packets row index =
     ap (λ ps. gathered gathering (map (brought_by task.kind hash_key (sized task size) bits row) ps)) (same_packets hash_key task size bits packets row index)
     ∙ ap (λ (f : Packet → ℕ). gathered gathering (map f (packets_at hash_key task bits packets row index)))
-      (fun_ext (λ packet. same_brought task.kind hash_key task size bits row packet))
+    (fun_ext (λ packet. same_brought task.kind hash_key task size bits row packet))
 
 same_independent : (gathering : Gathering) (hash_key : List ℕ) (task : Sketch) (size bits : ℕ) (packets : List Packet)
     → independent_cells gathering hash_key (sized task size) bits packets ≡ independent_cells gathering hash_key task bits packets

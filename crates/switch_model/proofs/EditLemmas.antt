@@ -93,7 +93,7 @@ same_keys front back o p same =
     ap (map key_of) (spots_between front back p)
     ∙ map_append key_of (all_spots front) (spots_by p ++ all_spots back)
     ∙ ap (λ ks. map key_of (all_spots front) ++ ks)
-      (map_append key_of (spots_by p) (all_spots back) ∙ ap (λ ks. ks ++ map key_of (all_spots back)) same ∙ sym (map_append key_of (spots_by o) (all_spots back)))
+    (map_append key_of (spots_by p) (all_spots back) ∙ ap (λ ks. ks ++ map key_of (all_spots back)) same ∙ sym (map_append key_of (spots_by o) (all_spots back)))
     ∙ sym (map_append key_of (all_spots front) (spots_by o ++ all_spots back))
     ∙ ap (map key_of) (sym (spots_between front back o))
 
@@ -170,7 +170,7 @@ task_thawed geometry o is = record {
       (All-weaker (IsRow geometry o) (λ row. IsRow geometry (thawed_outline o) (thawed_row row)) (λ row h. thawed_is geometry o row h) o.rows is.each);
   rising = pairs_map (RisesIn geometry o.task.kind) thawed_row o.rows
       (pairs_weaker (RisesIn geometry o.task.kind) (λ one two. RisesIn geometry o.task.kind (thawed_row one) (thawed_row two))
-        (λ one two r. rises_same geometry o.task.kind one two (thawed_row one) (thawed_row two) refl refl r) o.rows is.rising);
+      (λ one two r. rises_same geometry o.task.kind one two (thawed_row one) (thawed_row two) refl refl r) o.rows is.rising);
 }
 
 pub sound_thawed : (geometry : Geometry) (front back : List Outline) (o : Outline) → Sound geometry (front ++ o ∷ back)
@@ -321,7 +321,7 @@ sound_moved geometry front back o bits size news good sound free fits moves =
           (λ k d within. moved_is geometry all bits o p (get_or o.rows k d) (is.each k d within) (each k d within) size_.power refl refl);
       rising = pairs_map (RisesIn geometry o.task.kind) f o.rows
           (pairs_weaker (RisesIn geometry o.task.kind) (λ one two. RisesIn geometry o.task.kind (f one) (f two))
-            (λ one two r. rises_same geometry o.task.kind one two (f one) (f two) refl refl r) o.rows is.rising);
+          (λ one two r. rises_same geometry o.task.kind one two (f one) (f two) refl refl r) o.rows is.rising);
     })
     (subst (AllPairs ShareNone)
     (ap (λ hs. all_held front ++ hs) (sym (append_assoc fresh live (all_held back))) ∙ ap (λ hs. all_held front ++ ((fresh ++ hs) ++ all_held back)) (sym (moved_frozen geometry sight bits o.rows)))

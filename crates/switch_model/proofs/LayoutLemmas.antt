@@ -91,12 +91,12 @@ new_hold hash_key part i before [] new none long filled = All-nil (HoldsCells ha
 new_hold hash_key part i before (row ∷ rows) new none long filled =
     All-cons (HoldsCells hash_key new) (live_stand part i before row) (live_stands part (i + 1) (Some row.array) rows)
     (λ j within.
-      All-head (λ (h : Holding). (addr : ℕ) → is_in h.array addr h ≡ true → new h.array addr ≡ start_of part.task.kind) (live_holding row) (map live_holding rows) filled
-        (row.region.base + j) (is_inside row.array row.region j within)
-      ∙ sym (ap (λ ps. slice_index (row_of (cells_of hash_key part.task row.region.bits ps) i) j) none
-        ∙ first_cell hash_key part.task row.region.bits i j (omega (arith, long)) within))
+    All-head (λ (h : Holding). (addr : ℕ) → is_in h.array addr h ≡ true → new h.array addr ≡ start_of part.task.kind) (live_holding row) (map live_holding rows) filled
+    (row.region.base + j) (is_inside row.array row.region j within)
+    ∙ sym (ap (λ ps. slice_index (row_of (cells_of hash_key part.task row.region.bits ps) i) j) none
+    ∙ first_cell hash_key part.task row.region.bits i j (omega (arith, long)) within))
     (new_hold hash_key part (i + 1) (Some row.array) rows new none (omega (arith, long))
-      (All-tail (λ (h : Holding). (addr : ℕ) → is_in h.array addr h ≡ true → new h.array addr ≡ start_of part.task.kind) (live_holding row) (map live_holding rows) filled))
+    (All-tail (λ (h : Holding). (addr : ℕ) → is_in h.array addr h ≡ true → new h.array addr ≡ start_of part.task.kind) (live_holding row) (map live_holding rows) filled))
 
 -- ---- a task between others
 
@@ -127,7 +127,7 @@ frozen_hold hash_key part size i before f (row ∷ rows) contents holds =
     All-cons (HoldsCells hash_key contents) s (frozen_stands (resized_part task part) past (i + 1) (map (λ row. moved_row row (f row)) rows))
     (λ j within. here j within ∙ ap (λ cells. slice_index (row_of cells i) j) (sym (cells_any_size hash_key part.task size row.region.bits part.packets)))
     (frozen_hold hash_key part size (i + 1) (Some row.array) f rows contents
-      (All-tail (HoldsCells hash_key contents) (live_stand part i before row) (live_stands part (i + 1) (Some row.array) rows) holds))
+    (All-tail (HoldsCells hash_key contents) (live_stand part i before row) (live_stands part (i + 1) (Some row.array) rows) holds))
 
 -- a task that releases has the live rows that it had
 thawed_stands : (part : Part) (i : ℕ) (before : Option ℕ) (rows : List Row)
@@ -152,7 +152,7 @@ push_layout geometry hash_key rs task edit old new good sound layout is filled =
     let stay : All (HoldsCells hash_key new) (all_stands rs) =
     all_stay hash_key fresh (start_of task.kind) old new (all_stands rs) filled_
     (subst (Across ShareNone fresh) (sym (stands_hold geometry rs sound.tasks))
-      (news_apart geometry all task is.bits is.found (all_placed geometry all task is.bits is.found good places))) layout in
+    (news_apart geometry all task is.bits is.found (all_placed geometry all task is.bits is.found good places))) layout in
     let news : All (HoldsCells hash_key new) (live_stands (started task) 0 None rows) =
     new_hold hash_key (started task) 0 None rows new refl
     (omega (arith, length_map (row_at geometry (sight_of geometry all) task) is.found, places.counted_is)) filled_.filled in
@@ -186,7 +186,7 @@ move_layout geometry hash_key rs name size edit old new good sound layout is fil
     let stay : All (HoldsCells hash_key new) (all_stands rs) =
     all_stay hash_key fresh (start_of task.kind) old new (all_stands rs) filled_
     (subst (Across ShareNone fresh) (sym (stands_hold geometry rs sound.tasks))
-      (moved_apart geometry all is.bits one.rows (all_moving geometry all is.bits (outline one) one.rows good its.each are.each))) layout in
+    (moved_apart geometry all is.bits one.rows (all_moving geometry all is.bits (outline one) one.rows good its.each are.each))) layout in
     let parts : All (HoldsCells hash_key new) (all_stands at.before ++ (stands_by one ++ all_stands at.after)) =
     subst (All (HoldsCells hash_key new)) (ap all_stands at.is ∙ stands_between at.before at.after one) stay in
     let behind : All (HoldsCells hash_key new) (stands_by one ++ all_stands at.after) =
@@ -204,13 +204,13 @@ move_layout geometry hash_key rs name size edit old new good sound layout is fil
     subst (λ (e : Edit). Layout hash_key (edited_records e rs) new) (sym edit_)
     (subst (λ (xs : List Record). All (HoldsCells hash_key new) (all_stands xs))
     (sym (ap (edit_at (length at.before) (λ (r : Record). record { part = resized_part task r.part; rows = map f one.rows })) at.is
-      ∙ edited_here (λ (r : Record). record { part = resized_part task r.part; rows = map f one.rows }) at.before at.after one))
+    ∙ edited_here (λ (r : Record). record { part = resized_part task r.part; rows = map f one.rows }) at.before at.after one))
     (subst (All (HoldsCells hash_key new)) (sym (stands_between at.before at.after r))
     (All-append (HoldsCells hash_key new) (all_stands at.before) (stands_by r ++ all_stands at.after)
-      (all_front (HoldsCells hash_key new) (all_stands at.before) (stands_by one ++ all_stands at.after) parts)
-      (All-append (HoldsCells hash_key new) (stands_by r) (all_stands at.after)
-        (All-append (HoldsCells hash_key new) (live_stands part 0 None (map f one.rows)) (frozen_stands part past 0 (map f one.rows)) fresh_hold frozen)
-        (all_back (HoldsCells hash_key new) (stands_by one) (all_stands at.after) behind)))))
+    (all_front (HoldsCells hash_key new) (all_stands at.before) (stands_by one ++ all_stands at.after) parts)
+    (All-append (HoldsCells hash_key new) (stands_by r) (all_stands at.after)
+    (All-append (HoldsCells hash_key new) (live_stands part 0 None (map f one.rows)) (frozen_stands part past 0 (map f one.rows)) fresh_hold frozen)
+    (all_back (HoldsCells hash_key new) (stands_by one) (all_stands at.after) behind)))))
 
 pub drop_layout : (hash_key : List ℕ) (rs : List Record) (name : List ℕ) (edit : Edit) (old new : Contents)
     → Layout hash_key rs old → EditsAt name (outlines rs) Drop edit → Refilled (fresh_of edit) (start_in edit) old new
@@ -228,9 +228,9 @@ drop_layout hash_key rs name edit old new layout is filled =
     (sym (ap (λ (xs : List Record). remove xs (length at.before)) at.is ∙ removed_here at.before at.after at.one))
     (subst (All (HoldsCells hash_key new)) (sym (stands_both at.before at.after))
     (All-append (HoldsCells hash_key new) (all_stands at.before) (all_stands at.after)
-      (all_front (HoldsCells hash_key new) (all_stands at.before) (stands_by at.one ++ all_stands at.after) parts)
-      (all_back (HoldsCells hash_key new) (stands_by at.one) (all_stands at.after)
-        (all_back (HoldsCells hash_key new) (all_stands at.before) (stands_by at.one ++ all_stands at.after) parts)))))
+    (all_front (HoldsCells hash_key new) (all_stands at.before) (stands_by at.one ++ all_stands at.after) parts)
+    (all_back (HoldsCells hash_key new) (stands_by at.one) (all_stands at.after)
+    (all_back (HoldsCells hash_key new) (all_stands at.before) (stands_by at.one ++ all_stands at.after) parts)))))
 
 pub thaw_layout : (hash_key : List ℕ) (rs : List Record) (name : List ℕ) (edit : Edit) (old new : Contents)
     → Layout hash_key rs old → EditsAt name (outlines rs) Thaw edit → Refilled (fresh_of edit) (start_in edit) old new
@@ -259,9 +259,9 @@ thaw_layout hash_key rs name edit old new layout is filled =
     (sym (ap (edit_at (length at.before) thaw) at.is ∙ edited_here thaw at.before at.after one))
     (subst (All (HoldsCells hash_key new)) (sym (stands_between at.before at.after r))
     (All-append (HoldsCells hash_key new) (all_stands at.before) (stands_by r ++ all_stands at.after)
-      (all_front (HoldsCells hash_key new) (all_stands at.before) (stands_by one ++ all_stands at.after) parts)
-      (All-append (HoldsCells hash_key new) (stands_by r) (all_stands at.after) mine
-        (all_back (HoldsCells hash_key new) (stands_by one) (all_stands at.after) behind)))))
+    (all_front (HoldsCells hash_key new) (all_stands at.before) (stands_by one ++ all_stands at.after) parts)
+    (All-append (HoldsCells hash_key new) (stands_by r) (all_stands at.after) mine
+    (all_back (HoldsCells hash_key new) (stands_by one) (all_stands at.after) behind)))))
 
 pub change_keeps_layout : ChangeKeepsLayout
 change_keeps_layout geometry hash_key rs (Add task) edit old new good sound layout h filled =
