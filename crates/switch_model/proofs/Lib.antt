@@ -1,6 +1,7 @@
 pub mod AddLemmas
 pub mod AnySizeLemmas
 pub mod CallLemmas
+pub mod ChainLemmas
 pub mod EditLemmas
 pub mod IsolationLemmas
 pub mod JudgedLemmas
