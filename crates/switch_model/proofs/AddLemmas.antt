@@ -1,12 +1,10 @@
 -- A task that is added leaves the tasks sound.
-use Rattle.std.proofs.Common.{cond, not, ◌≡◌, ◌≢◌, ℕ, zero, suc, ◌+◌, ◌^◌, ◌<◌, ◌≤◌, ◌&&◌, Bool, true, false, List, [], ◌∷◌, ◌++◌, length, get_or, map, refl, ap, ap₂, sym, ◌∙◌, subst, arith, ⊎_elim, append-nil}
+use Rattle.std.proofs.Common.{cond, not, ◌≡◌, ◌≢◌, ℕ, ◌+◌, ◌^◌, ◌<◌, Bool, true, false, List, [], ◌∷◌, ◌++◌, get_or, map, refl, ap, ap₂, sym, ◌∙◌, subst, arith, ⊎_elim, append-nil}
 use Rattle.std.specs.Prelude.{Option, None, Some, IfSome, is_some}
 use Rattle.std.specs.List.{All, AllPairs, flat_map}
 use Rattle.std.proofs.lemmas.Bool.{cases_eq, false≢true}
-use Rattle.std.proofs.lemmas.List.Elements.{All-nil, All-cons, All-head, All-tail, All-append, All-map, All-weaker}
-use Rattle.addr_translate.specs.Blocks.{Block}
-use Rattle.addr_translate.specs.declared.shapes.GroupShape.{GroupShape}
-use Rattle.addr_translate.specs.Geometry.{Geometry, IsGeometry, array_count, bits_of, group_in, group_number}
+use Rattle.std.proofs.lemmas.List.Elements.{All-nil, All-cons, All-append, All-map, All-weaker}
+use Rattle.addr_translate.specs.Geometry.{Geometry, IsGeometry, array_count, group_in, group_number}
 use Rattle.addr_translate.proofs.GeometryLemmas.{bits_within, greatest_at_most}
 use Rattle.key_mask.specs.Masks.{no_lengths}
 use Rattle.partition_pool.specs.Regions.{is_free}
@@ -22,20 +20,19 @@ use Rattle.sketch_defs.specs.Tasks.{Sketch, first_fault, is_no_key, allows_rows,
 use Rattle.sketch_defs.specs.declared.tasks.TaskFault.TheVariants as faults
 use Rattle.std.specs.Str.{bytes_eq}
 use Rattle.placer.specs.declared.places.Place.{Place}
-use Rattle.placer.specs.Sights.{Sight, bits_for, units_at, taken_at, rules_at, region_for}
-use Rattle.placer.specs.Placement.{is_open}
-use Rattle.placer.proofs.PlacementLemmas.{IsPlaceOn, ArePlaces, placed_accepted}
+use Rattle.placer.specs.Sights.{Sight, bits_for, units_at, taken_at, rules_at}
+use Rattle.placer.proofs.PlacementLemmas.{IsPlaceOn, ArePlaces}
 use Rattle.placer.proofs.SightLemmas.{IsSize, size_is, region_for_found}
 use Rattle.switch_model.specs.Records.{Row, UnitMask, Outline}
-use Rattle.switch_model.specs.Sights.{Holding, Spot, GroupUse, group_uses, live_holding, frozen_holding, held_in, held_by, all_held, spot_of, spots_from, spots_by, all_spots, row_uses, uses_by, all_uses, units_on, sight_of}
+use Rattle.switch_model.specs.Sights.{Spot, GroupUse, group_uses, live_holding, held_by, all_held, spots_from, spots_by, all_spots, row_uses, uses_by, all_uses, units_on, sight_of}
 use Rattle.switch_model.specs.Soundness.{IsRow, IsTask, IsPartOf, RisesIn, GiveKey, HaveOwnNames, ShareNone, MatchNone, AgreeOnUnits, Sound}
 use Rattle.switch_model.specs.Changes.{mask_in, masks_for, row_at, new_outline}
-use Rattle.switch_model.proofs.ListLemmas.{Across, Parts, flat_append, all_flat, all_mapped, pairs_append, pairs_map, pairs_mapped, pairs_weaker, map_append, length_map, across_turned}
+use Rattle.switch_model.proofs.ListLemmas.{Across, flat_append, all_flat, all_mapped, pairs_append, pairs_map, pairs_mapped, pairs_weaker, length_map, across_turned}
 use Rattle.switch_model.proofs.IsolationLemmas.{bytes_same}
 use Rattle.switch_model.proofs.CallLemmas.{share_turned, and_parts}
 use Rattle.switch_model.proofs.StandLemmas.{none_frozen}
 use Rattle.switch_model.proofs.SightLemmas.{rules_seen, taken_seen, units_seen, free_of_all, admitted, all_agree, across_pairs, length_units, agree_turned}
-use Rattle.switch_model.proofs.UnitLemmas.{AreUses, IsFit, GiveIt, BothUsed, keys_give, new_use, new_agrees, both_agree, masks_stand}
+use Rattle.switch_model.proofs.UnitLemmas.{AreUses, GiveIt, keys_give, new_use, new_agrees, both_agree, masks_stand}
 
 -- ---- the uses of sound tasks
 

@@ -1,20 +1,20 @@
 -- A resize, a removal and a release leave the tasks sound.
-use Rattle.std.proofs.Common.{◌≡◌, ◌≢◌, ℕ, zero, suc, ◌+◌, ◌^◌, ◌<◌, ◌≤◌, Bool, true, false, List, [], ◌∷◌, ◌++◌, length, get_or, map, remove, refl, ap, ap₂, sym, ◌∙◌, subst, arith, append-nil, append_assoc}
-use Rattle.std.specs.Prelude.{Option, None, Some, IfSome, Result, Ok, Err, is_some, option_map}
-use Rattle.std.specs.List.{All, AllPairs, cons_option, filter_map, flat_map}
-use Rattle.std.proofs.lemmas.List.Elements.{All-nil, All-cons, All-head, All-tail, All-append, All-map, All-weaker}
+use Rattle.std.proofs.Common.{◌≡◌, ℕ, ◌+◌, ◌^◌, ◌<◌, false, List, [], ◌∷◌, ◌++◌, get_or, map, refl, ap, ap₂, sym, ◌∙◌, subst, arith, append-nil, append_assoc}
+use Rattle.std.specs.Prelude.{Option, None, Some, Result, Ok, Err, is_some}
+use Rattle.std.specs.List.{All, AllPairs, filter_map, flat_map}
+use Rattle.std.proofs.lemmas.List.Elements.{All-nil, All-cons, All-append, All-map, All-weaker}
 use Rattle.addr_translate.specs.Blocks.{Block}
-use Rattle.addr_translate.specs.Geometry.{Geometry, IsGeometry, array_count, bits_of, group_number}
+use Rattle.addr_translate.specs.Geometry.{Geometry, IsGeometry, array_count, group_number}
 use Rattle.addr_translate.proofs.GeometryLemmas.{bits_within, greatest_at_most}
 use Rattle.partition_pool.specs.Regions.{is_free}
 use Rattle.sketch_defs.specs.declared.kinds.Kind.{Kind}
 use Rattle.sketch_defs.specs.declared.kinds.Kind.TheVariants.{Cms, SumaxSum, SumaxMax, Bloom, Mrac, Hll, FlagOr, FlagAnd}
 use Rattle.sketch_defs.specs.Tasks.{Sketch}
-use Rattle.placer.specs.Sights.{Sight, bits_for, taken_at, region_for}
+use Rattle.placer.specs.Sights.{Sight, bits_for, region_for}
 use Rattle.placer.proofs.SightLemmas.{IsSize, size_is, region_for_found}
 use Rattle.switch_model.specs.Records.{Row, Outline}
-use Rattle.switch_model.specs.Sights.{Holding, Spot, GroupUse, live_holding, frozen_in, frozen_holding, held_in, held_by, all_held, spot_of, spots_from, spots_by, all_spots, row_uses, uses_by, all_uses, sight_of}
-use Rattle.switch_model.specs.Soundness.{IsRow, IsTask, IsPartOf, GiveKey, RisesIn, HaveOwnNames, ShareNone, MatchNone, AgreeOnUnits, Sound, size_of}
+use Rattle.switch_model.specs.Sights.{Holding, live_holding, frozen_holding, held_by, all_held, spots_by, all_spots, row_uses, uses_by, all_uses, sight_of}
+use Rattle.switch_model.specs.Soundness.{IsRow, IsTask, IsPartOf, GiveKey, RisesIn, HaveOwnNames, ShareNone, MatchNone, AgreeOnUnits, Sound}
 use Rattle.switch_model.specs.Changes.{moved_row, moved_first, moved_rows, moved_outline, thawed_row, thawed_outline}
 use Rattle.switch_model.proofs.ListLemmas.{Across, Around, Parts, around, pairs_parts, flat_append, all_front, all_back, all_here, all_between, all_without, pairs_append, pairs_map, pairs_mapped, pairs_weaker, map_append, length_map, across_turned}
 use Rattle.switch_model.proofs.IsolationLemmas.{renamed}
