@@ -19,16 +19,10 @@ use Rattle.placer.specs.declared.places.Place.{Place}
 use Rattle.placer.specs.declared.places.Refusal.{Refusal}
 use Rattle.placer.specs.declared.places.Refusal.TheVariants.{NoUnit, NoPartition}
 use Rattle.placer.specs.Sights.{Sight, rules_at, units_at, region_for}
+use Rattle.placer.specs.Laws.{IsPlaceOn, ArePlaces}
 use Rattle.placer.specs.Placement.{is_open, place_of, place_on, first_of_groups, counted, open_arrays, places_for, placed}
 
 -- ---- one place
-
--- the place stands on an array that is open, with the units that give the key and the lowest free partition
-pub record IsPlaceOn (geometry : Geometry) (sight : Sight) (task : Sketch) (bits array : ℕ) (place : Place) : Type 0 where
-  pub array_is : place.array ≡ array
-  pub open_to : is_open geometry sight task array ≡ true
-  pub keys_are : keys_for (units_at geometry sight array) task.key ≡ Some place.keys
-  pub region_is : region_for geometry sight bits array ≡ Some place.region
 
 pub placed_on : (geometry : Geometry) (sight : Sight) (task : Sketch) (bits array : ℕ) (place : Place)
     → place_on geometry sight task bits array ≡ Some place → IsPlaceOn geometry sight task bits array place
@@ -189,15 +183,6 @@ groups_rise geometry sight task bits chained = λ i j d before within.
     omega (arith, rise, differ i j d before within)
 
 -- ---- what is accepted
-
--- the places of an accepted task: as many as its rows, each one that the rule gives, on arrays that rise
-pub record ArePlaces (geometry : Geometry) (sight : Sight) (task : Sketch) (bits : ℕ) (places : List Place) : Type 0 where
-  pub first : places ≡ take task.rows (places_for geometry sight task bits)
-  pub counted_is : length places ≡ task.rows
-  pub exist : All (λ place. place.array < array_count geometry) places
-  pub stand : All (λ place. IsPlaceOn geometry sight task bits place.array place) places
-  pub rise : AllPairs (λ one two. one.array < two.array) places
-  pub groups : task.kind ≡ SumaxSum → AllPairs (λ one two. group_number geometry one.array < group_number geometry two.array) places
 
 pairs-take : {X : Type 0} (R : X → X → Type 0) (n : ℕ) (xs : List X) → AllPairs R xs → AllPairs R (take n xs)
 pairs-take R zero xs holds = λ i j d before within. absurd (omega (arith, within))

@@ -9,9 +9,10 @@ use Rattle.partition_pool.specs.Pools.{PoolState}
 use Rattle.placer.specs.declared.places.Place.{Place}
 use Rattle.placer.specs.Sights.{Sight, bits_for}
 use Rattle.placer.specs.Placement.{counted, is_open, no_pool, place_on, placed, pool_at, sight_in}
+use Rattle.placer.specs.Laws.{IsPlaceOn}
 use Rattle.placer.specs.Steps.{with_one}
 use Rattle.placer.proofs.LookLemmas.{Looks, open_seen, place_seen}
-use Rattle.placer.proofs.PlacementLemmas.{All-counted, IsPlaceOn, placed_each, range_below}
+use Rattle.placer.proofs.PlacementLemmas.{All-counted, placed_each, range_below}
 use Rattle.placer.proofs.StepLemmas.{array_more, place_more, placed_judged}
 use Rattle.placer.proofs.planning.plan.Goals as goal
 
