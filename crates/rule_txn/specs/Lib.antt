@@ -1,0 +1,5 @@
+pub mod State
+pub mod Rows
+pub mod Switch
+pub mod Changes
+pub mod Fills
