@@ -3,3 +3,4 @@ pub mod Words
 pub mod RamFile
 pub mod Log
 pub mod TraceFile
+pub mod Calls
