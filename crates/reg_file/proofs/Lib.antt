@@ -1,2 +1,3 @@
+pub mod CallLemmas
 mod Places
 mod Values
