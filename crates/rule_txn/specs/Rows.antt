@@ -11,6 +11,7 @@ use Rattle.match_table.specs.declared.entries.Entry.{Entry}
 use Rattle.match_table.specs.Tables.{EntryTable}
 use Rattle.sketch_defs.specs.declared.kinds.Kind.TheVariants.{SumaxSum}
 use Rattle.sketch_defs.specs.Tasks.{Sketch}
+use Rattle.pipe_core.specs.Rules.{Fits, installed, uninstalled, served_in, freed_in}
 use Rattle.placer.specs.Placement.{pool_at}
 use Rattle.switch_model.specs.Records.{UnitMask, Row}
 use Rattle.switch_model.specs.Sights.{before_of, spot_of}
@@ -18,7 +19,7 @@ use Rattle.switch_model.specs.Changes.{moved_row, thawed_row}
 use Rattle.rule_txn.specs.declared.rows.Served.{Served}
 use Rattle.rule_txn.specs.declared.rows.Served.TheVariants.{Single, Pair}
 use Rattle.rule_txn.specs.declared.rows.Turn.{Turn}
-use Rattle.rule_txn.specs.State.{Lent, free_in, with_region, less_region, Gives, HasGiven, units_for, with_entry, less_entry, Admits, HasEntry}
+use Rattle.rule_txn.specs.State.{Lent, free_in, with_region, less_region, Gives, HasGiven, units_for, Admits, HasEntry}
 
 abbrev pub keys_in : Served → KeyUse
 keys_in (Single unit mask) = uses.Single unit
@@ -170,7 +171,7 @@ Groups = List (List (Option UsedUnit))
 abbrev pub with_use : Geometry → List ℕ → Groups → Option Row → Groups
 with_use geometry key groups None = groups
 with_use geometry key groups (Some row) =
-    slice_set groups (group_number geometry row.array) (served_units (units_for geometry groups row.array) row.keys key)
+    served_in groups (group_number geometry row.array) row.keys key
 
 abbrev pub with_uses : Geometry → List ℕ → Groups → List (Option Row) → Groups
 with_uses geometry key groups [] = groups
@@ -179,7 +180,7 @@ with_uses geometry key groups (row ∷ rows) = with_uses geometry key (with_use 
 abbrev pub less_use : Geometry → Groups → Option Row → Groups
 less_use geometry groups None = groups
 less_use geometry groups (Some row) =
-    slice_set groups (group_number geometry row.array) (freed_units (units_for geometry groups row.array) row.keys)
+    freed_in groups (group_number geometry row.array) row.keys
 
 abbrev pub less_uses : Geometry → Groups → List (Option Row) → Groups
 less_uses geometry groups [] = groups
@@ -229,7 +230,7 @@ entry_for task turn row = (spot_of task turn.row turn.before row).entry
 
 abbrev pub with_row : Sketch → Turn → List EntryTable → Option Row → List EntryTable
 with_row task turn tables None = tables
-with_row task turn tables (Some row) = with_entry tables row.array (entry_for task turn row)
+with_row task turn tables (Some row) = installed tables row.array (entry_for task turn row)
 
 abbrev pub with_rows : Sketch → Turn → List EntryTable → List (Option Row) → List EntryTable
 with_rows task turn tables [] = tables
@@ -237,21 +238,19 @@ with_rows task turn tables (row ∷ rows) = with_rows task (turn_after turn row)
 
 abbrev pub less_row : List EntryTable → Option Row → List EntryTable
 less_row tables None = tables
-less_row tables (Some row) = less_entry tables row.array row.region.base
+less_row tables (Some row) = uninstalled tables row.array row.region.base
 
 abbrev pub less_rows : List EntryTable → List (Option Row) → List EntryTable
 less_rows tables [] = tables
 less_rows tables (row ∷ rows) = less_rows (less_row tables row) rows
 
--- the row's entry can be installed: of a row of SuMax-Sum, the row before stands in an earlier group
+-- the row's entry can be installed
 pub record Settles (geometry : Geometry) (task : Sketch) (turn : Turn) (tables : List EntryTable) (row : Row) : Type 0 where
   pub few : turn.row < task.rows
   pub first : (turn.before ≡ None) ↔ (turn.row ≡ 0)
   pub array : row.array < array_count geometry
-  pub inside : row.region.base + 2 ^ row.region.bits ≤ 2 ^ bits_of geometry row.array
-  pub units : All (λ unit. unit < (group_in geometry (group_number geometry row.array)).units) (units_in row.keys)
-  pub carry : IfSome (before_of task.kind turn.before) (λ array. group_number geometry array < group_number geometry row.array)
-  pub table : Admits tables row.array (entry_for task turn row)
+  pub fits : Fits geometry row.array (entry_for task turn row)
+  pub table : Admits (2 ^ geometry.split) tables row.array (entry_for task turn row)
 
 abbrev pub CanSettle : Geometry → Sketch → Turn → List EntryTable → Option Row → Type 0
 CanSettle geometry task turn tables None = Unit {0}
@@ -262,10 +261,15 @@ CanSettleAll geometry task turn tables [] = Unit {0}
 CanSettleAll geometry task turn tables (row ∷ rows) =
     CanSettle geometry task turn tables row × CanSettleAll geometry task (turn_after turn row) (with_row task turn tables row) rows
 
-abbrev pub CanLeave : List EntryTable → Option Row → Type 0
-CanLeave tables None = Unit {0}
-CanLeave tables (Some row) = HasEntry tables row.array row.region.base
+-- the row has an entry in the table of its array
+pub record Leaves (geometry : Geometry) (tables : List EntryTable) (row : Row) : Type 0 where
+  pub array : row.array < array_count geometry
+  pub entry : HasEntry tables row.array row.region.base
 
-abbrev pub CanLeaveAll : List EntryTable → List (Option Row) → Type 0
-CanLeaveAll tables [] = Unit {0}
-CanLeaveAll tables (row ∷ rows) = CanLeave tables row × CanLeaveAll (less_row tables row) rows
+abbrev pub CanLeave : Geometry → List EntryTable → Option Row → Type 0
+CanLeave geometry tables None = Unit {0}
+CanLeave geometry tables (Some row) = Leaves geometry tables row
+
+abbrev pub CanLeaveAll : Geometry → List EntryTable → List (Option Row) → Type 0
+CanLeaveAll geometry tables [] = Unit {0}
+CanLeaveAll geometry tables (row ∷ rows) = CanLeave geometry tables row × CanLeaveAll geometry (less_row tables row) rows

@@ -10,6 +10,7 @@ use Rattle.partition_pool.specs.Regions.{free_block, put_by_base, without}
 use Rattle.group_keys.specs.Units.{UsedUnit, HasRoom, AreInUse, keys_for, units_in, served_units, freed_units}
 use Rattle.match_table.specs.declared.entries.Entry.{Entry}
 use Rattle.match_table.specs.Tables.{EntryTable, has_base, admits}
+use Rattle.pipe_core.specs.Rules.{table_at, units_of}
 use Rattle.placer.specs.Placement.{pool_at}
 
 -- the shape of the switch, the key of its hash, and what stands in its arrays and groups
@@ -30,15 +31,9 @@ there (Some x ∷ xs) = x ∷ there xs
 abbrev pub Lent : Type 0
 Lent = pools_in.Holding
 
-abbrev pub no_table : EntryTable
-no_table = record { room = 0; entries = [] }
-
-abbrev pub table_at : List EntryTable → ℕ → EntryTable
-table_at tables array = slice_index_or tables array no_table
-
 -- the units of the group in which an array stands
 abbrev pub units_for : Geometry → List (List (Option UsedUnit)) → ℕ → List (Option UsedUnit)
-units_for geometry groups array = slice_index_or groups (group_number geometry array) []
+units_for geometry groups array = units_of groups (group_number geometry array)
 
 -- ---- pools
 
@@ -69,22 +64,12 @@ pub record HasGiven (pools : List PoolState) (array : ℕ) (region : Block) : Ty
 
 -- ---- tables
 
-abbrev pub with_entry : List EntryTable → ℕ → Entry → List EntryTable
-with_entry tables array entry =
-    let table = table_at tables array in slice_set tables array (record table { entries = table.entries ++ entry ∷ [] })
-
-abbrev pub less_entry : List EntryTable → ℕ → ℕ → List EntryTable
-less_entry tables array base =
-    let table = table_at tables array in slice_set tables array (record table { entries = cut_by (has_base base) table.entries })
-
--- the table of this array admits the entry
-pub record Admits (tables : List EntryTable) (array : ℕ) (entry : Entry) : Type 0 where
-  pub exists : array < length tables
-  pub room : length (table_at tables array).entries < (table_at tables array).room
+-- the table of this array, with room for so many entries, admits the entry
+pub record Admits (room : ℕ) (tables : List EntryTable) (array : ℕ) (entry : Entry) : Type 0 where
+  pub few : length (table_at tables array).entries < room
   pub apart : IsTrue (admits (table_at tables array).entries entry.filter)
   pub base : list_any (has_base entry.region.base) (table_at tables array).entries ≡ false
 
--- and has an entry with this base
-pub record HasEntry (tables : List EntryTable) (array base : ℕ) : Type 0 where
-  pub exists : array < length tables
-  pub entry : IsTrue (list_any (has_base base) (table_at tables array).entries)
+-- the table of this array has an entry with this base
+abbrev pub HasEntry : List EntryTable → ℕ → ℕ → Type 0
+HasEntry tables array base = IsTrue (list_any (has_base base) (table_at tables array).entries)

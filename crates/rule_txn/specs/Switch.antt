@@ -4,6 +4,7 @@ use Rattle.std.specs.List.{range_with_len}
 use Rattle.addr_translate.specs.Geometry.{Geometry, IsGeometry, array_count, bits_of, group_in}
 use Rattle.partition_pool.specs.Pools.{PoolState}
 use Rattle.match_table.specs.Tables.{EntryTable}
+use Rattle.pipe_core.specs.Rules.{first_rules}
 use Rattle.switch_model.specs.Records.{Outline}
 use Rattle.switch_model.specs.Sights.{Holding, Spot, GroupUse, all_held, all_spots, all_uses, taken_on, rules_on, units_on, by_place}
 use Rattle.switch_model.specs.Soundness.{Sound}
@@ -61,6 +62,5 @@ first_state geometry hash_key = record {
   geometry = geometry;
   hash_key = hash_key;
   pools = pools_for geometry [];
-  tables = tables_for geometry [];
-  groups = groups_for geometry [];
-}
+  tables = (first_rules geometry hash_key).tables;
+  groups = (first_rules geometry hash_key).groups }
