@@ -1,1 +1,6 @@
+pub mod IsolationLemmas
+pub mod JudgedLemmas
+pub mod ListLemmas
+pub mod RestorationLemmas
+pub mod StandLemmas
 pub mod Values
