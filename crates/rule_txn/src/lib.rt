@@ -2,6 +2,9 @@
 #![tactic(auto)]
 
 mod faults;
+mod fills;
+mod pools;
 mod rows;
+mod stage;
 
 pub use faults::{AddFault, ReleaseFault, ResizeFault, StartFail, Unknown};

@@ -11,6 +11,7 @@ ghost use Rattle.rule_txn.specs.Switch.{first_state};
 ghost use Rattle.rule_txn.specs.Fills.{Fills, AreInFile};
 
 use crate::fills::fill_all;
+use crate::pools::{close_pools, free_pools};
 use crate::rows::{Leased, Turn};
 use addr_translate::Shape;
 use hash_units::HashKey;
@@ -48,8 +49,8 @@ impl Stage {
     pub(crate) fn new(alloc: Global, shape: Shape, key: HashKey) -> Result<Stage, AllocError>
         ensures { IfOk result (λ stage. stage ≡ first_state shape key) }
     {
-        let pools = free_pools(alloc, &shape)?;
         let pipe = Pipe::new(alloc, shape, key)?;
+        let pools = free_pools(alloc, &shape)?;
         Ok(Stage { pools, pipe })
     }
 
