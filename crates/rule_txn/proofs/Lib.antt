@@ -1,1 +1,3 @@
 mod Tasks
+pub mod StageLeases
+pub mod StageFills

@@ -10,6 +10,7 @@ use partition_pool::Pool;
 use std::alloc::{AllocError, Global};
 
 /// The pools of a shape's arrays, by number, with nothing taken.
+#[tactic(auto, unfolding(crate::specs::Switch::pools_for))]
 pub(crate) fn free_pools(alloc: Global, shape: &Shape) -> Result<Vec<Pool>, AllocError>
     ensures { IfOk result (λ pools. pools.items ≡ pools_for shape.now []) }
 {
