@@ -1,1 +1,3 @@
 mod Tasks
+mod Keys
+mod Places
