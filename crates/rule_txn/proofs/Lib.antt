@@ -1,3 +1,4 @@
 mod Tasks
 mod Keys
 mod Places
+mod Pools
