@@ -2,3 +2,5 @@ mod Tasks
 mod Keys
 mod Places
 mod Pools
+mod Tables
+mod Settled
