@@ -4,3 +4,4 @@ mod Places
 mod Pools
 mod Tables
 mod Settled
+mod Again
