@@ -1,3 +1,9 @@
+mod StageFills
+mod StageLeases
 mod Tasks
-pub mod StageLeases
-pub mod StageFills
+mod Keys
+mod Places
+mod Pools
+mod Tables
+mod Settled
+mod Again
