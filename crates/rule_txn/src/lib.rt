@@ -3,7 +3,7 @@
 
 mod faults;
 mod fills;
-mod pools;
+mod making;
 mod rows;
 mod stage;
 

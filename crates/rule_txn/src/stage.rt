@@ -6,13 +6,14 @@ ghost use Rattle.std.specs.List.{All};
 ghost use Rattle.addr_translate.specs.Geometry.{array_count};
 ghost use Rattle.partition_pool.specs.Pools.{PoolState};
 ghost use Rattle.rule_txn.specs.State.{State, there, Gives, HasGiven, with_region, less_region};
-ghost use Rattle.rule_txn.specs.Rows.{next_lease, with_lease, less_lease, fresh_leases, taken, given, given_back, GivesAt, CanTake, IsLent, CanGive, CanGiveBack, with_use, with_uses, less_use, less_uses, CanServe, CanServeAll, CanFree, CanFreeAll, first_turn, turn_after, with_row, with_rows, less_row, less_rows, CanSettle, CanSettleAll, CanLeave, CanLeaveAll};
+ghost use Rattle.rule_txn.specs.Rows.{next_lease, with_lease, less_lease, fresh_leases, lives, frozens, leased_rows, AreServed, moved_all, CanMoveAll, taken, given, given_back, GivesAt, CanTake, IsLent, CanGive, CanGiveBack, with_use, with_uses, less_use, less_uses, CanServe, CanServeAll, CanFree, CanFreeAll, first_turn, turn_after, with_row, with_rows, less_row, less_rows, CanSettle, CanSettleAll, CanLeave, CanLeaveAll};
+ghost use Rattle.rule_txn.specs.Stages.{HadRoom, HadRoomAll};
 ghost use Rattle.rule_txn.specs.Switch.{first_state};
 ghost use Rattle.rule_txn.specs.Fills.{Fills, AreInFile};
 
 use crate::fills::fill_all;
-use crate::pools::{close_pools, free_pools};
-use crate::rows::{Leased, Turn};
+use crate::making::{close_pools, free_pools};
+use crate::rows::{Leased, Served, Turn, lease_rows, move_rows, part_rows};
 use addr_translate::Shape;
 use hash_units::HashKey;
 use key_mask::Mask;
@@ -70,6 +71,7 @@ impl Stage {
         requires { Gives bits self.old.pools array }
         ensures lease { Some result ≡ next_lease bits self.old.pools (Some array) }
         ensures state { self.new ≡ record self.old { pools = with_lease self.old.pools (Some result) } }
+        ensures room { HadRoom self.old.pools (Some result) }
     {
         match self.pools[array as usize].take(bits) {
             Some(lease) => lease,
@@ -81,6 +83,7 @@ impl Stage {
         requires { GivesAt bits self.old.pools array }
         ensures lease { result ≡ next_lease bits self.old.pools array }
         ensures state { self.new ≡ record self.old { pools = with_lease self.old.pools result } }
+        ensures room { HadRoom self.old.pools result }
     {
         match array {
             Some(array) => Some(self.take_one(array, bits)),
@@ -92,6 +95,7 @@ impl Stage {
         requires { CanTake bits self.old.pools arrays }
         ensures leases { result ≡ fresh_leases bits self.old.pools arrays }
         ensures state { self.new ≡ record self.old { pools = taken result self.old.pools } }
+        ensures room { HadRoomAll self.old.pools result }
     {
         let [one, two, three, four] = arrays;
         let one = self.take(one, bits);
@@ -148,7 +152,7 @@ impl Stage {
     }
 
     /// Gives back leases of live rows.
-    pub(crate) fn give_all(&mut self, leases: [Option<Lease<Live>>; 4])
+    fn give_all(&mut self, leases: [Option<Lease<Live>>; 4])
         requires { CanGive self.old.pools leases }
         ensures { self.new ≡ record self.old { pools = given leases self.old.pools } }
     {
@@ -177,6 +181,7 @@ impl Stage {
         requires file { AreInFile (R.dims regs.old) (fresh_leases bits self.old.pools arrays) }
         ensures leases { IfOk result (λ leases. leases ≡ fresh_leases bits self.old.pools arrays) }
         ensures state { IfOk result (λ leases. self.new ≡ record self.old { pools = taken leases self.old.pools }) }
+        ensures room { IfOk result (HadRoomAll self.old.pools) }
         ensures refused { OnErr result (self.new ≡ self.old) }
         ensures cause { HasCause (R.faults regs.old) (R.faults regs.new) result }
         ensures dims { R.dims regs.new ≡ R.dims regs.old }
@@ -205,7 +210,7 @@ impl Stage {
     }
 
     /// One use more on the units of each row.
-    pub(crate) fn serve_all(&mut self, task: &Task, rows: &[Option<Leased>; 4])
+    fn serve_all(&mut self, task: &Task, rows: &[Option<Leased>; 4])
         requires { CanServeAll self.old.geometry task.now.key self.old.groups rows.now }
         ensures { self.new ≡ record self.old { groups = with_uses self.old.geometry task.now.key self.old.groups rows.now } }
     {
@@ -228,7 +233,7 @@ impl Stage {
     }
 
     /// One use less on the units of each row.
-    pub(crate) fn free_all(&mut self, rows: &[Option<Leased>; 4])
+    fn free_all(&mut self, rows: &[Option<Leased>; 4])
         requires { CanFreeAll self.old.geometry self.old.groups rows.now }
         ensures { self.new ≡ record self.old { groups = less_uses self.old.geometry self.old.groups rows.now } }
     {
@@ -259,7 +264,7 @@ impl Stage {
     }
 
     /// Installs the entries of a task's rows.
-    pub(crate) fn install_all(&mut self, task: &Task, rows: &[Option<Leased>; 4])
+    fn install_all(&mut self, task: &Task, rows: &[Option<Leased>; 4])
         requires { CanSettleAll self.old.geometry task.now first_turn self.old.tables rows.now }
         ensures { self.new ≡ record self.old { tables = with_rows task.now first_turn self.old.tables rows.now } }
     {
@@ -285,7 +290,7 @@ impl Stage {
     }
 
     /// Takes the entries of rows out of their tables.
-    pub(crate) fn uninstall_all(&mut self, rows: &[Option<Leased>; 4])
+    fn uninstall_all(&mut self, rows: &[Option<Leased>; 4])
         requires { CanLeaveAll self.old.geometry self.old.tables rows.now }
         ensures { self.new ≡ record self.old { tables = less_rows self.old.tables rows.now } }
     {
@@ -294,6 +299,56 @@ impl Stage {
         self.uninstall(two);
         self.uninstall(three);
         self.uninstall(four);
+    }
+
+    /// Sets rows on their leases, each with its units: one use more on the units, and their entries
+    /// installed.
+    pub(crate) fn settle_all(&mut self, task: &Task, served: [Option<Served>; 4], leases: [Option<Lease<Live>>; 4]) -> [Option<Leased>; 4]
+        requires served { AreServed served 0 leases }
+        requires units { CanServeAll self.old.geometry task.now.key self.old.groups (leased_rows served 0 leases) }
+        requires entries { CanSettleAll self.old.geometry task.now first_turn self.old.tables (leased_rows served 0 leases) }
+        ensures rows { result ≡ leased_rows served 0 leases }
+        ensures state { self.new ≡ record self.old {
+            tables = with_rows task.now first_turn self.old.tables result;
+            groups = with_uses self.old.geometry task.now.key self.old.groups result } }
+    {
+        let rows = lease_rows(served, leases);
+        self.serve_all(task, &rows);
+        self.install_all(task, &rows);
+        rows
+    }
+
+    /// Moves rows to new leases of their arrays, and freezes their own ones. Their units stay.
+    pub(crate) fn move_all(&mut self, task: &Task, rows: [Option<Leased>; 4], leases: [Option<Lease<Live>>; 4]) -> [Option<Leased>; 4]
+        requires moves { CanMoveAll rows leases }
+        requires leave { CanLeaveAll self.old.geometry self.old.tables rows }
+        requires entries { CanSettleAll self.old.geometry task.now first_turn (less_rows self.old.tables rows) (moved_all rows leases) }
+        ensures rows { result ≡ moved_all rows leases }
+        ensures state { self.new ≡ record self.old { tables = with_rows task.now first_turn (less_rows self.old.tables rows) result } }
+    {
+        self.uninstall_all(&rows);
+        let rows = move_rows(rows, leases);
+        self.install_all(task, &rows);
+        rows
+    }
+
+    /// Takes rows away: their entries, their uses of units and their live leases. Answers their
+    /// frozen ones.
+    pub(crate) fn clear_all(&mut self, rows: [Option<Leased>; 4]) -> [Option<Lease<Frozen>>; 4]
+        requires leave { CanLeaveAll self.old.geometry self.old.tables rows }
+        requires units { CanFreeAll self.old.geometry self.old.groups rows }
+        requires leases { CanGive self.old.pools (lives rows) }
+        ensures frozen { result ≡ frozens rows }
+        ensures state { self.new ≡ record self.old {
+            pools = given (lives rows) self.old.pools;
+            tables = less_rows self.old.tables rows;
+            groups = less_uses self.old.geometry self.old.groups rows } }
+    {
+        self.uninstall_all(&rows);
+        self.free_all(&rows);
+        let (live, frozen) = part_rows(rows);
+        self.give_all(live);
+        frozen
     }
 
     /// Ends pools of which nothing is taken.

@@ -5,7 +5,7 @@ use Rattle.std.proofs.lemmas.List.FromFn.{map-range_with_len_more}
 use Rattle.addr_translate.specs.Geometry.{Geometry}
 use Rattle.partition_pool.specs.Pools.{PoolState}
 use Rattle.rule_txn.specs.Switch.{pool_for}
-use Rattle.rule_txn.proofs.pools.free_pools.Goals as goal
+use Rattle.rule_txn.proofs.making.free_pools.Goals as goal
 
 free_taken : (geometry : Geometry) (n : ℕ) → All (λ (pool : PoolState). pool.taken ≡ []) (map (pool_for geometry []) (range_with_len 0 n))
 free_taken geometry n =

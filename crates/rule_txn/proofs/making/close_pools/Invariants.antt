@@ -1,7 +1,7 @@
 use Rattle.std.proofs.Common.{◌≡◌, []}
 use Rattle.std.specs.List.{All}
 use Rattle.partition_pool.specs.Pools.{PoolState}
-use Rattle.rule_txn.proofs.pools.close_pools.Given as goal
+use Rattle.rule_txn.proofs.making.close_pools.Given as goal
 
 abbrev pub invariant-pools : goal.invariant-pools
 invariant-pools l = All (λ (pool : PoolState). pool.taken ≡ []) l.pools.items

@@ -2,7 +2,7 @@ use Rattle.std.proofs.Common.{◌≡◌, ◌≤◌, [], map, vec_len, vec_capaci
 use Rattle.std.specs.List.{range_with_len}
 use Rattle.addr_translate.specs.Geometry.{array_count}
 use Rattle.rule_txn.specs.Switch.{pool_for}
-use Rattle.rule_txn.proofs.pools.free_pools.Given as goal
+use Rattle.rule_txn.proofs.making.free_pools.Given as goal
 
 abbrev pub invariant-arrays : goal.invariant-arrays
 invariant-arrays l = record {
