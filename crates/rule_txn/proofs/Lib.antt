@@ -5,3 +5,4 @@ mod Pools
 mod Tables
 mod Settled
 mod Again
+mod Uses
