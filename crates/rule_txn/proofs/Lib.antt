@@ -7,3 +7,4 @@ mod Pools
 mod Tables
 mod Settled
 mod Again
+mod Uses
