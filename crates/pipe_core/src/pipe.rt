@@ -10,7 +10,7 @@ ghost use Rattle.pipe_core.specs.Rules.{IsPipe, IsShaped, SameShape, Fits, table
 ghost use Rattle.pipe_core.specs.Groups.{group_calls, Steps};
 ghost use Rattle.pipe_core.specs.Flow.{calls_over};
 
-use crate::making::{copy_tables, empty_tables, free_groups};
+use crate::making::{copy_tables, empty_tables, free_groups, most_entries};
 use addr_translate::Shape;
 use cmu_stage::{Outs, compress, pass};
 use group_keys::{GroupKeys, KeyUse};
@@ -46,15 +46,15 @@ impl Model for Pipe {
 
 impl Pipe {
     /// No entries, and all units free. Each table has room for the most partitions of an array.
+    #[tactic(auto, using(crate::proofs::RuleLemmas::first_pipe))]
     pub fn new(alloc: Global, shape: Shape, hash_key: HashKey) -> Result<Pipe, AllocError>
         ensures { IfOk result (λ pipe. pipe ≡ first_rules shape hash_key) }
     {
-        let room = 1 << shape.split();
         Ok(Pipe {
             shape,
             hash_key,
             hashes: ByteTables::new(alloc, &hash_key)?,
-            tables: empty_tables(alloc, shape.arrays(), room)?,
+            tables: empty_tables(alloc, shape.arrays(), most_entries(&shape))?,
             groups: free_groups(alloc, &shape)?,
         })
     }
