@@ -38,10 +38,10 @@ later_within : (rules : Rules) (packet : Packet) (outs : List ℕ) (group n : �
     → All (IsWithin (first_in rules group) (first_in rules (group + n))) (later_calls rules packet outs group n)
 later_within rules packet outs group n =
     all_flat (IsWithin (first_in rules group) (first_in rules (group + n))) (λ g. group_calls rules g packet outs) group n (λ k lt i d less.
-        let within = group_within rules (group + k) packet outs i d less in
-        let low : first_in rules group ≤ first_in rules (group + k) = first_le rules group (group + k) (omega arith) in
-        let high : first_in rules (group + k) + cmus_in rules (group + k) ≤ first_in rules (group + n) = first_more rules (group + k) (group + n) (omega arith) in
-        record { least = omega (arith, low, within.least); most = omega (arith, high, within.most) })
+    let within = group_within rules (group + k) packet outs i d less in
+    let low : first_in rules group ≤ first_in rules (group + k) = first_le rules group (group + k) (omega arith) in
+    let high : first_in rules (group + k) + cmus_in rules (group + k) ≤ first_in rules (group + n) = first_more rules (group + k) (group + n) (omega arith) in
+    record { least = omega (arith, low, within.least); most = omega (arith, high, within.most) })
 
 pub record AreRight (rules : Rules) (packet : Packet) (contents : Contents) (outs : List ℕ) : Type 0 where
   pub right : outs ≡ handed contents (packet_calls rules packet outs) no_carries
@@ -50,14 +50,16 @@ pub record AreRight (rules : Rules) (packet : Packet) (contents : Contents) (out
 right_below : (rules : Rules) (packet : Packet) (contents : Contents) (outs : List ℕ) (group n : ℕ) → group + n ≡ length rules.geometry.groups
     → AreRight rules packet contents outs → AgreeBelow (first_in rules group) (handed contents (groups_calls rules packet outs group) no_carries) outs
 unfolding packet_calls
-right_below rules packet contents outs group n e r = record { same = λ array lt.
-    let zero_group : 0 + group ≡ group = omega arith in
-    let before = groups_calls rules packet outs group in
-    let later = later_calls rules packet outs group n in
-    let cut : packet_calls rules packet outs ≡ before ++ later =
-    ap (groups_calls rules packet outs) (sym e) ∙ flat_cut (λ g. group_calls rules g packet outs) 0 group n ∙ ap (λ g. before ++ later_calls rules packet outs g n) zero_group in
-    sym (ap (λ (o : List ℕ). slice_index o array) (r.right ∙ ap (λ calls. handed contents calls no_carries) cut ∙ fold-append (hand contents) no_carries before later)
-        ∙ handed_stays contents later (handed contents before no_carries) (first_in rules group) (first_in rules (group + n)) array (later_within rules packet outs group n) lt) }
+right_below rules packet contents outs group n e r = record {
+  same = λ array lt.
+      let zero_group : 0 + group ≡ group = omega arith in
+      let before = groups_calls rules packet outs group in
+      let later = later_calls rules packet outs group n in
+      let cut : packet_calls rules packet outs ≡ before ++ later =
+      ap (groups_calls rules packet outs) (sym e) ∙ flat_cut (λ g. group_calls rules g packet outs) 0 group n ∙ ap (λ g. before ++ later_calls rules packet outs g n) zero_group in
+      sym (ap (λ (o : List ℕ). slice_index o array) (r.right ∙ ap (λ calls. handed contents calls no_carries) cut ∙ fold-append (hand contents) no_carries before later)
+      ∙ handed_stays contents later (handed contents before no_carries) (first_in rules group) (first_in rules (group + n)) array (later_within rules packet outs group n) lt);
+}
 
 flow_from : (rules : Rules) (packet : Packet) (contents : Contents) (outs : List ℕ) (n group : ℕ) → IsPipe rules → group + n ≡ length rules.geometry.groups
     → AreRight rules packet contents outs

@@ -90,7 +90,7 @@ group_same rules group packet one two pipe exists agree =
     let shape = group_in rules.geometry group in
     flat_same (array_calls rules group packet one) (array_calls rules group packet two) first (cmus_in rules group)
     (λ k less. at_same (keys_in rules group packet.vec) packet one two shape.bits shape.units first (entries_on rules (first + k)) (first + k) agree
-        (group_entries rules group k pipe exists less))
+    (group_entries rules group k pipe exists less))
 
 -- ---- one array more of a group
 
@@ -125,9 +125,9 @@ one_array_more rules group packet n outs mid_outs new_outs contents mid_contents
     subst (λ calls. Makes calls outs new_outs contents new_contents list new_list)
     (ap (λ calls. before ++ calls) same ∙ sym (flat_more (array_calls rules group packet outs) first n))
     (makes_then before here outs mid_outs new_outs contents mid_contents new_contents list mid_list new_list
-        (elsewhere first (first + n) (first + n + 1) before here (front_within rules group packet outs n)
-            (array_within rules group packet mid_outs (first + n) (first + n) (first + n + 1) (omega arith) (omega arith)))
-        front one)
+    (elsewhere first (first + n) (first + n + 1) before here (front_within rules group packet outs n)
+    (array_within rules group packet mid_outs (first + n) (first + n) (first + n + 1) (omega arith) (omega arith)))
+    front one)
 
 pub group_whole : (rules : Rules) (group : ℕ) (packet : Packet) (outs : List ℕ) (n : ℕ) → n ≡ cmus_in rules group
     → front_calls rules group packet outs n ≡ group_calls rules group packet outs

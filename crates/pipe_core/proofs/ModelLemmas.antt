@@ -88,11 +88,11 @@ model_flow rules packet contents model (suc n) group pipe is e =
     ap (λ calls. handed contents calls outs) here
     ∙ sym (fold-append (hand contents) no_carries before (flat_map model (range_with_len first many)))
     ∙ ap (λ calls. handed contents calls no_carries)
-        (sym (ap (λ m. flat_map model (range_with_len 0 m)) next_first ∙ flat_cut model 0 first many ∙ ap (λ a. before ++ flat_map model (range_with_len a many)) zero_first)) in
+    (sym (ap (λ m. flat_map model (range_with_len 0 m)) next_first ∙ flat_cut model 0 first many ∙ ap (λ a. before ++ flat_map model (range_with_len a many)) zero_first)) in
     ap₂ (λ xs ys. xs ++ ys) here
     (ap (flow (stages_in rules) contents packet n (group + 1)) next
-        ∙ model_flow rules packet contents model n (group + 1) pipe is (omega arith)
-        ∙ ap (λ a. flat_map model (range_with_len a rest)) next_first)
+    ∙ model_flow rules packet contents model n (group + 1) pipe is (omega arith)
+    ∙ ap (λ a. flat_map model (range_with_len a rest)) next_first)
     ∙ sym (flat_cut model first many rest)
     ∙ ap (λ m. flat_map model (range_with_len first m)) (sym more)
 

@@ -57,7 +57,7 @@ pub entries_fit : {rules outer : Rules} (group array : ℕ) (table : EntryTable)
 entries_fit {rules} {outer} group array table dims old_dims same here is stays shaped =
     subst (λ (bits : ℕ). All (IsEntry bits 4 48) table.entries) (sym (ap (λ (d : Dims). d.bits) stays ∙ shaped.bits))
     (subst (λ (t : EntryTable). All (IsEntry (greatest_bits outer.geometry) 4 48) t.entries) (sym (table_is group array table same here is))
-        (entries_stand outer group array here.pipe here.in_groups here.low here.high))
+    (entries_stand outer group array here.pipe here.in_groups here.low here.high))
 
 -- the calls on one array more
 pub array_step : {rules outer : Rules} (group array first : ℕ) (packet : Packet) (units : List (Option UsedUnit)) (hash_key keys : List ℕ) (table : EntryTable)
@@ -78,11 +78,11 @@ array_step {rules} {outer} group array first packet units hash_key keys table ou
     let more : n + 1 ≡ array + 1 - first = omega (arith, is_first, here.low) in
     subst (λ (m : ℕ). Makes (front_calls outer group packet outs m) outs new_outs contents new_contents list new_list) more
     (one_array_more outer group packet n outs mid_outs new_outs contents mid_contents new_contents list mid_list new_list here.pipe here.in_groups
-        (omega (arith, is_first, here.low, here.high)) front
-        (subst (λ calls. Makes calls mid_outs new_outs mid_contents new_contents mid_list new_list)
-            (ap₂ (λ ks (t : EntryTable). calls_at ks packet mid_outs t.entries array) keys_are (table_is group array table same here is_table)
-                ∙ ap (λ a. array_calls outer group packet mid_outs a) (sym at))
-            made))
+    (omega (arith, is_first, here.low, here.high)) front
+    (subst (λ calls. Makes calls mid_outs new_outs mid_contents new_contents mid_list new_list)
+    (ap₂ (λ ks (t : EntryTable). calls_at ks packet mid_outs t.entries array) keys_are (table_is group array table same here is_table)
+    ∙ ap (λ a. array_calls outer group packet mid_outs a) (sym at))
+    made))
 
 -- the calls on all arrays of a group
 pub arrays_whole : {rules outer : Rules} (group array first many : ℕ) (packet : Packet) (outs new_outs : List ℕ)

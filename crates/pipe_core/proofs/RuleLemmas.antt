@@ -62,9 +62,9 @@ entries_stand rules group array pipe exists low high =
     let is : group_number geometry array ≡ group = in_group rules group array exists low high in
     All-weaker (Fits geometry array) (IsEntry (greatest_bits geometry) 4 48)
     (λ entry fits. entry_wider (bits_of geometry array) (group_in geometry (group_number geometry array)).units (arrays_before geometry (group_number geometry array))
-        (greatest_bits geometry) 4 48 entry (bits_within geometry array)
-        (subst (λ g. (group_in geometry g).units ≤ 4) (sym is) (few_units geometry group pipe.geometry exists))
-        (subst (λ g. arrays_before geometry g ≤ 48) (sym is) few) fits)
+    (greatest_bits geometry) 4 48 entry (bits_within geometry array)
+    (subst (λ g. (group_in geometry g).units ≤ 4) (sym is) (few_units geometry group pipe.geometry exists))
+    (subst (λ g. arrays_before geometry g ≤ 48) (sym is) few) fits)
     (entries_on rules array) (pipe.entries array among)
 
 -- ---- changes
@@ -89,7 +89,7 @@ pipe_with_table rules array table exists pipe room fit =
       units = pipe.units;
       entries = λ a less. ⊎_elim
           (λ (e : a ≡ array). subst (λ b. All (Fits rules.geometry b) (table_at (set tables array table) b).entries) (sym e)
-              (subst (λ (t : EntryTable). All (Fits rules.geometry array) t.entries) (sym same) fit))
+          (subst (λ (t : EntryTable). All (Fits rules.geometry array) t.entries) (sym same) fit))
           (λ other. subst (λ (t : EntryTable). All (Fits rules.geometry a) t.entries) (sym (get_or-set_other tables array a table no_table other)) (pipe.entries a (omega (arith, less, long))))
           (cases_eq a array);
     }
@@ -106,7 +106,7 @@ installs {rules} array entry old new same exists pipe is made fits =
     let stood : All (Fits rules.geometry array) old.entries = subst (λ (t : EntryTable). All (Fits rules.geometry array) t.entries) (sym read) (pipe.entries array among) in
     pipe_with_table rules array new here pipe (ap (λ (t : EntryTable). t.room) (made ∙ ap (λ t. with_entry t entry) read))
     (subst (λ (t : EntryTable). All (Fits rules.geometry array) t.entries) (sym made)
-        (All-append (Fits rules.geometry array) old.entries (entry ∷ []) stood (All-cons (Fits rules.geometry array) entry [] fit (All-nil (Fits rules.geometry array)))))
+    (All-append (Fits rules.geometry array) old.entries (entry ∷ []) stood (All-cons (Fits rules.geometry array) entry [] fit (All-nil (Fits rules.geometry array)))))
 
 all_cut : {X : Type 0} (P : X → Type 0) (p : X → Bool) (xs : List X) → All P xs → All P (cut_by p xs)
 all_cut P p [] h = h
@@ -142,8 +142,8 @@ pipe_with_units rules group units exists pipe many =
       rooms = pipe.rooms;
       units = λ g less. ⊎_elim
           (λ (e : g ≡ group). ap (λ h. length (units_of (set groups group units) h)) e
-              ∙ ap length (get_or-set_same groups group units [] among) ∙ many ∙ pipe.units group among
-              ∙ ap (λ h. (group_in rules.geometry h).units) (sym e))
+          ∙ ap length (get_or-set_same groups group units [] among) ∙ many ∙ pipe.units group among
+          ∙ ap (λ h. (group_in rules.geometry h).units) (sym e))
           (λ other. ap length (get_or-set_other groups group g units [] other) ∙ pipe.units g (omega (arith, less, long)))
           (cases_eq g group);
       entries = pipe.entries;

@@ -20,9 +20,9 @@ groups_calls rules packet outs n = flat_map (λ group. group_calls rules group p
 pub groups_within : (rules : Rules) (packet : Packet) (outs : List ℕ) (n : ℕ) → All (IsWithin 0 (first_in rules n)) (groups_calls rules packet outs n)
 groups_within rules packet outs n =
     all_flat (IsWithin 0 (first_in rules n)) (λ group. group_calls rules group packet outs) 0 n (λ k lt i d less.
-        let within = group_within rules (0 + k) packet outs i d less in
-        let below : first_in rules (0 + k) + cmus_in rules (0 + k) ≤ first_in rules n = first_more rules (0 + k) n (omega arith) in
-        record { least = omega arith; most = omega (arith, within.most, below) })
+    let within = group_within rules (0 + k) packet outs i d less in
+    let below : first_in rules (0 + k) + cmus_in rules (0 + k) ≤ first_in rules n = first_more rules (0 + k) n (omega arith) in
+    record { least = omega arith; most = omega (arith, within.most, below) })
 
 pub one_group_more : (rules : Rules) (packet : Packet) (n : ℕ) (outs mid_outs new_outs : List ℕ)
     (contents mid_contents new_contents : Option Contents) (list mid_list new_list : Option (List Call))
@@ -38,16 +38,16 @@ one_group_more rules packet n outs mid_outs new_outs contents mid_contents new_c
     } in
     let earlier : (k : ℕ) → k ≤ n → group_calls rules k packet mid_outs ≡ group_calls rules k packet new_outs =
     (λ k le. group_same rules k packet mid_outs new_outs pipe (omega arith)
-        (record { same = λ array below. let le' : first_in rules k ≤ first = first_le rules k n le in sym (agree.same array (omega arith)) })) in
+    (record { same = λ array below. let le' : first_in rules k ≤ first = first_le rules k n le in sym (agree.same array (omega arith)) })) in
     let zero_n : 0 + n ≡ n = omega arith in
     subst (λ calls. Makes calls outs new_outs contents new_contents list new_list)
     (ap₂ (λ xs ys. xs ++ ys)
-        (flat_same (λ group. group_calls rules group packet mid_outs) (λ group. group_calls rules group packet new_outs) 0 n (λ k less. earlier (0 + k) (omega arith)))
-        (earlier n (omega arith) ∙ ap (λ g. group_calls rules g packet new_outs) (sym zero_n))
-        ∙ sym (flat_more (λ group. group_calls rules group packet new_outs) 0 n))
+    (flat_same (λ group. group_calls rules group packet mid_outs) (λ group. group_calls rules group packet new_outs) 0 n (λ k less. earlier (0 + k) (omega arith)))
+    (earlier n (omega arith) ∙ ap (λ g. group_calls rules g packet new_outs) (sym zero_n))
+    ∙ sym (flat_more (λ group. group_calls rules group packet new_outs) 0 n))
     (makes_then (groups_calls rules packet mid_outs n) (group_calls rules n packet mid_outs) outs mid_outs new_outs contents mid_contents new_contents list mid_list new_list
-        (elsewhere 0 first end (groups_calls rules packet mid_outs n) (group_calls rules n packet mid_outs) (groups_within rules packet mid_outs n) (group_within rules n packet mid_outs))
-        front one)
+    (elsewhere 0 first end (groups_calls rules packet mid_outs n) (group_calls rules n packet mid_outs) (groups_within rules packet mid_outs n) (group_within rules n packet mid_outs))
+    front one)
 
 pub pipe_whole : (rules : Rules) (packet : Packet) (outs : List ℕ) (n : ℕ) → n ≡ length rules.geometry.groups
     → groups_calls rules packet outs n ≡ packet_calls rules packet outs

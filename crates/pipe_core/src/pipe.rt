@@ -176,7 +176,14 @@ impl Pipe {
 
     /// The packet on the arrays of a group, of which `first` is the first; answers the first array
     /// behind them.
-    fn pass_arrays<R: RegFile>(&self, group: u32, first: u32, packet: &Packet, outs: &mut Outs, regs: &mut R) -> u32
+    fn pass_arrays<R: RegFile>(
+        &self,
+        group: u32,
+        first: u32,
+        packet: &Packet,
+        outs: &mut Outs,
+        regs: &mut R,
+    ) -> u32
         requires group { group < length self.now.geometry.groups }
         requires first { first ≡ first_in self.now group }
         requires shaped { IsShaped self.now.geometry (R.dims regs.old) }
@@ -189,7 +196,14 @@ impl Pipe {
         let keys = compress(&self.hashes, &self.groups[group as usize], &packet.vec);
         let end = first + self.shape.cmus_of(group);
         'arrays: for array in first..end {
-            pass(&self.tables[array as usize], array, packet, &keys, outs, regs);
+            pass(
+                &self.tables[array as usize],
+                array,
+                packet,
+                &keys,
+                outs,
+                regs,
+            );
         }
         end
     }
