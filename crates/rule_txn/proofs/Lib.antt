@@ -6,3 +6,4 @@ mod Tables
 mod Settled
 mod Again
 mod Uses
+mod Served
