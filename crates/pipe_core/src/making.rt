@@ -1,5 +1,5 @@
 //! The tables and the units of a new pipe, and copies of tables.
-ghost use Rattle.std.specs.Prelude.{◌≡◌, ◌<◌, ◌≤◌, ℕ, length, map, replicate, None, IfOk};
+ghost use Rattle.std.specs.Prelude.{◌≡◌, ◌<◌, ◌≤◌, ◌^◌, ℕ, length, map, replicate, None, IfOk};
 ghost use Rattle.addr_translate.specs.declared.shapes.GroupShape.{GroupShape};
 ghost use Rattle.pipe_core.specs.Rules.{empty_table, table_at};
 
@@ -7,6 +7,16 @@ use addr_translate::Shape;
 use group_keys::GroupKeys;
 use match_table::Table;
 use std::alloc::{AllocError, Global};
+
+/// How many entries a table has room for: the most partitions of an array.
+#[tactic(auto, using(crate::proofs::RuleLemmas::room_is, crate::proofs::RuleLemmas::room_most, crate::proofs::RuleLemmas::room_some))]
+pub(crate) fn most_entries(shape: &Shape) -> u32
+    ensures value { result ≡ 2 ^ shape.now.split }
+    ensures some { 1 ≤ result }
+    ensures most { result ≤ 1024 }
+{
+    1 << shape.split()
+}
 
 /// So many empty tables.
 pub(crate) fn empty_tables(alloc: Global, count: u32, room: u32) -> Result<Vec<Table>, AllocError>

@@ -10,7 +10,7 @@ ghost use Rattle.pipe_core.specs.Rules.{IsPipe, IsShaped, SameShape, Fits, table
 ghost use Rattle.pipe_core.specs.Groups.{group_calls, Steps};
 ghost use Rattle.pipe_core.specs.Flow.{calls_over};
 
-use crate::making::{copy_tables, empty_tables, free_groups};
+use crate::making::{copy_tables, empty_tables, free_groups, most_entries};
 use addr_translate::Shape;
 use cmu_stage::{Outs, compress, pass};
 use group_keys::{GroupKeys, KeyUse};
@@ -46,15 +46,15 @@ impl Model for Pipe {
 
 impl Pipe {
     /// No entries, and all units free. Each table has room for the most partitions of an array.
+    #[tactic(auto, using(crate::proofs::RuleLemmas::first_pipe))]
     pub fn new(alloc: Global, shape: Shape, hash_key: HashKey) -> Result<Pipe, AllocError>
         ensures { IfOk result (λ pipe. pipe ≡ first_rules shape hash_key) }
     {
-        let room = 1 << shape.split();
         Ok(Pipe {
             shape,
             hash_key,
             hashes: ByteTables::new(alloc, &hash_key)?,
-            tables: empty_tables(alloc, shape.arrays(), room)?,
+            tables: empty_tables(alloc, shape.arrays(), most_entries(&shape))?,
             groups: free_groups(alloc, &shape)?,
         })
     }
@@ -176,7 +176,14 @@ impl Pipe {
 
     /// The packet on the arrays of a group, of which `first` is the first; answers the first array
     /// behind them.
-    fn pass_arrays<R: RegFile>(&self, group: u32, first: u32, packet: &Packet, outs: &mut Outs, regs: &mut R) -> u32
+    fn pass_arrays<R: RegFile>(
+        &self,
+        group: u32,
+        first: u32,
+        packet: &Packet,
+        outs: &mut Outs,
+        regs: &mut R,
+    ) -> u32
         requires group { group < length self.now.geometry.groups }
         requires first { first ≡ first_in self.now group }
         requires shaped { IsShaped self.now.geometry (R.dims regs.old) }
@@ -189,7 +196,14 @@ impl Pipe {
         let keys = compress(&self.hashes, &self.groups[group as usize], &packet.vec);
         let end = first + self.shape.cmus_of(group);
         'arrays: for array in first..end {
-            pass(&self.tables[array as usize], array, packet, &keys, outs, regs);
+            pass(
+                &self.tables[array as usize],
+                array,
+                packet,
+                &keys,
+                outs,
+                regs,
+            );
         }
         end
     }

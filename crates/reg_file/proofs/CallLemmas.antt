@@ -25,10 +25,10 @@ pub made_by_call : (array addr : ℕ) (op : Op) (answer : ℕ) (old new : Conten
 made_by_call array addr op answer old new m = fun_ext (λ a. fun_ext (λ i.
     ⊎_elim
     (λ (same : a ≡ array).
-        ⊎_elim
-        (λ (here : i ≡ addr). grind (arith, nat_tests, m.here))
-        (λ (other : i ≢ addr). grind (arith, nat_tests, m.others i other))
-        (cases_eq i addr))
+    ⊎_elim
+    (λ (here : i ≡ addr). grind (arith, nat_tests, m.here))
+    (λ (other : i ≢ addr). grind (arith, nat_tests, m.others i other))
+    (cases_eq i addr))
     (λ (other : a ≢ array). grind (arith, nat_tests, m.arrays a i other))
     (cases_eq a array)))
 
@@ -103,11 +103,12 @@ makes_then one two outs mid_outs new_outs contents mid_contents new_contents lis
   stays = λ array e.
       let parts = or_false (list_any (is_on array) one) (list_any (is_on array) two) (sym (list_any-append (is_on array) one two) ∙ e) in
       n.stays array parts.1 ∙ m.stays array parts.0;
-  told = told_then contents mid_contents new_contents (λ x y z p q.
-      (q.0 ∙ ap (λ (c : Contents). all_made c two) p.0 ∙ sym (fold-append made x one two),
-      q.1 ∙ ap₂ (λ (c : Contents) (o : List ℕ). handed c two o) p.0 p.1
-      ∙ handed_same (all_made x one) x two (handed x one outs) (elsewhere_same x one two apart)
-      ∙ sym (fold-append (λ outs (call : Call). slice_set outs call.array (carry_in x call)) outs one two))) m.told n.told;
+  told = told_then contents mid_contents new_contents (λ x y z p q. (
+    q.0 ∙ ap (λ (c : Contents). all_made c two) p.0 ∙ sym (fold-append made x one two),
+    q.1 ∙ ap₂ (λ (c : Contents) (o : List ℕ). handed c two o) p.0 p.1
+        ∙ handed_same (all_made x one) x two (handed x one outs) (elsewhere_same x one two apart)
+        ∙ sym (fold-append (λ outs (call : Call). slice_set outs call.array (carry_in x call)) outs one two),
+  )) m.told n.told;
 }
 
 -- ---- what was made over registers that are told
@@ -127,9 +128,10 @@ pub over_then : (one two : Contents → List Call) (contents mid_contents new_co
 over_then one two contents mid_contents new_contents list mid_list new_list m n = record {
   calls = m.calls ++ n.calls;
   joined = grows_then list mid_list new_list m.calls n.calls m.joined n.joined;
-  told = told_then contents mid_contents new_contents (λ x y z p q.
-      (ap₂ (λ xs ys. xs ++ ys) p.0 (q.0 ∙ ap two (p.1 ∙ ap (all_made x) p.0)),
-      q.1 ∙ ap (λ c. all_made c n.calls) p.1 ∙ sym (fold-append made x m.calls n.calls))) m.told n.told;
+  told = told_then contents mid_contents new_contents (λ x y z p q. (
+    ap₂ (λ xs ys. xs ++ ys) p.0 (q.0 ∙ ap two (p.1 ∙ ap (all_made x) p.0)),
+    q.1 ∙ ap (λ c. all_made c n.calls) p.1 ∙ sym (fold-append made x m.calls n.calls),
+  )) m.told n.told;
 }
 
 pub over_same : (one two : Contents → List Call) (contents new_contents : Option Contents) (list new_list : Option (List Call))
