@@ -8,7 +8,9 @@ use Rattle.std.proofs.lemmas.List.Folds.{Any-from_list_any}
 use Rattle.std.proofs.lemmas.Map.Made.{IsDistinct-from_AllPairs}
 use Rattle.std.proofs.lemmas.Map.Steps.{length-le_from_distinct_below}
 use Rattle.addr_translate.specs.Blocks.{Block}
-use Rattle.addr_translate.specs.Geometry.{Geometry, bits_of, group_number, least_bits_of}
+use Rattle.addr_translate.specs.declared.shapes.GroupShape.{GroupShape}
+use Rattle.addr_translate.specs.Geometry.{Geometry, array_count, bits_of, equal_geometry, group_number, least_bits_of}
+use Rattle.addr_translate.proofs.GeometryLemmas.{equal_bits}
 use Rattle.partition_pool.specs.Pools.{PoolState, least_bits}
 use Rattle.group_keys.specs.Units.{UsedUnit, keys_for}
 use Rattle.group_keys.specs.declared.uses.KeyUse.{KeyUse}
@@ -17,7 +19,7 @@ use Rattle.match_table.specs.Tables.{EntryTable, admits}
 use Rattle.sketch_defs.specs.Tasks.{Sketch}
 use Rattle.placer.specs.declared.places.Place.{Place}
 use Rattle.placer.specs.Sights.{Sight, rules_at, units_at, taken_at, region_in, region_for}
-use Rattle.placer.specs.Placement.{sight_in, is_open, place_of, place_on}
+use Rattle.placer.specs.Placement.{sight_in, is_open, no_pool, place_of, place_on, pool_at}
 
 rules_seen : (tables : List EntryTable) (units : List (List (Option UsedUnit))) (pools : List PoolState) (k : ℕ) (table : EntryTable)
     → k < length tables → table ≡ get_or tables k table → rules_at (sight_in tables units pools) k ≡ table.entries
@@ -75,8 +77,8 @@ place_seen geometry tables units pools task bits array table group pool keys reg
     let sight : Sight = sight_in tables units pools in
     let least : least_bits pool ≡ least_bits_of geometry array = ap₂ (λ a b. a - b) same_bits same_split in
     let whole : region ≡ region_for geometry sight bits array =
-      r ∙ ap (λ n. region_in n (least_bits pool) pool.taken bits) same_bits
-      ∙ ap₂ (λ n taken. region_in (bits_of geometry array) n taken bits) least (sym (taken_seen tables units pools array pool within pool_is)) in
+    r ∙ ap (λ n. region_in n (least_bits pool) pool.taken bits) same_bits
+    ∙ ap₂ (λ n taken. region_in (bits_of geometry array) n taken bits) least (sym (taken_seen tables units pools array pool within pool_is)) in
     ap₂ (place_of array) (e ∙ keys_seen geometry tables units pools task array table group looks) whole
     ∙ place_by (admits (rules_at sight array) task.filter) array (keys_for (units_at geometry sight array) task.key) (region_for geometry sight bits array)
 
@@ -89,3 +91,11 @@ few_distinct xs n differ below = length-le_from_distinct_below xs n (IsDistinct-
       let same : q ≡ here.1 = eqb-true q here.1 here.4 in
       let small : get_or xs here.0 here.1 < n = below here.0 here.1 here.2 in
       omega (arith, same, small, here.3)
+
+-- pools of equal bits are those of equal groups
+pub equal_pools : (count : ℕ) (group : GroupShape) (split : ℕ) (pools : List PoolState) → length pools ≡ array_count (equal_geometry count group split)
+    → All (λ pool. pool.bits ≡ group.bits) pools
+    → (array : ℕ) → array < array_count (equal_geometry count group split)
+    → (pool_at pools array).bits ≡ bits_of (equal_geometry count group split) array
+equal_pools count group split pools long alike array within =
+    alike array no_pool (omega (arith, within, long)) ∙ sym (equal_bits count group split array within)

@@ -19,16 +19,10 @@ use Rattle.placer.specs.declared.places.Place.{Place}
 use Rattle.placer.specs.declared.places.Refusal.{Refusal}
 use Rattle.placer.specs.declared.places.Refusal.TheVariants.{NoUnit, NoPartition}
 use Rattle.placer.specs.Sights.{Sight, rules_at, units_at, region_for}
+use Rattle.placer.specs.Laws.{IsPlaceOn, ArePlaces}
 use Rattle.placer.specs.Placement.{is_open, place_of, place_on, first_of_groups, counted, open_arrays, places_for, placed}
 
 -- ---- one place
-
--- the place stands on an array that is open, with the units that give the key and the lowest free partition
-pub record IsPlaceOn (geometry : Geometry) (sight : Sight) (task : Sketch) (bits array : ℕ) (place : Place) : Type 0 where
-  pub array_is : place.array ≡ array
-  pub open_to : is_open geometry sight task array ≡ true
-  pub keys_are : keys_for (units_at geometry sight array) task.key ≡ Some place.keys
-  pub region_is : region_for geometry sight bits array ≡ Some place.region
 
 pub placed_on : (geometry : Geometry) (sight : Sight) (task : Sketch) (bits array : ℕ) (place : Place)
     → place_on geometry sight task bits array ≡ Some place → IsPlaceOn geometry sight task bits array place
@@ -77,6 +71,7 @@ placed_each geometry sight task bits limit (array ∷ arrays) below =
     by (placed_each geometry sight task bits limit arrays (All-tail (λ b. b < limit) array arrays below)) (place_on geometry sight task bits array) refl where
       Stands : Place → Type 0
       Stands place = (place.array < limit) × IsPlaceOn geometry sight task bits place.array place
+
       by : All Stands (filter_map (place_on geometry sight task bits) arrays) → (o : Option Place) → place_on geometry sight task bits array ≡ o
           → All Stands (cons_option o (filter_map (place_on geometry sight task bits) arrays))
       by rest None e = rest
@@ -124,8 +119,10 @@ groups_differ {X} group (x ∷ xs) =
     (AllPairs-filter (λ x y. group x ≢ group y) out firsts (groups_differ group xs)) where
       firsts : List X
       firsts = first_of_groups group xs
+
       out : X → Bool
       out y = not (group y == group x)
+
       other : (y : X) → out y ≡ true → group x ≢ group y
       other y passes same = eqb-false (group y) (group x) (not-true (group y == group x) passes) (sym same)
 
@@ -137,17 +134,20 @@ placed_rise geometry sight task bits a zero = ((λ i j d before within. absurd (
 placed_rise geometry sight task bits a (suc n) = by (placed_rise geometry sight task bits (a + 1) n) (place_on geometry sight task bits a) refl where
   rest : List Place
   rest = filter_map (place_on geometry sight task bits) (range_with_len (a + 1) n)
+
   Rising : List Place → Type 0
   Rising places = AllPairs (λ one two. one.array < two.array) places × All (λ place. a ≤ place.array) places
+
   by : AllPairs (λ one two. one.array < two.array) rest × All (λ place. a + 1 ≤ place.array) rest
       → (o : Option Place) → place_on geometry sight task bits a ≡ o → Rising (cons_option o rest)
   by h None e = (h.0, All-weaker (λ place. a + 1 ≤ place.array) (λ place. a ≤ place.array) (λ place later. omega arith) rest h.1)
   by h (Some place) e =
-      let here : place.array ≡ a = (placed_on geometry sight task bits a place e).array_is in
-      (AllPairs-cons (λ one two. one.array < two.array) place rest
-       (All-weaker (λ other. a + 1 ≤ other.array) (λ other. place.array < other.array) (λ other later. omega arith) rest h.1) h.0,
-       All-cons (λ place. a ≤ place.array) place rest (omega arith)
-       (All-weaker (λ place. a + 1 ≤ place.array) (λ place. a ≤ place.array) (λ place later. omega arith) rest h.1))
+      let here : place.array ≡ a = (placed_on geometry sight task bits a place e).array_is in (
+        AllPairs-cons (λ one two. one.array < two.array) place rest
+            (All-weaker (λ other. a + 1 ≤ other.array) (λ other. place.array < other.array) (λ other later. omega arith) rest h.1) h.0,
+        All-cons (λ place. a ≤ place.array) place rest (omega arith)
+            (All-weaker (λ place. a + 1 ≤ place.array) (λ place. a ≤ place.array) (λ place later. omega arith) rest h.1),
+      )
 
 pub places_rise : (geometry : Geometry) (sight : Sight) (task : Sketch) (bits : ℕ)
     → AllPairs (λ one two. one.array < two.array) (places_for geometry sight task bits)
@@ -179,19 +179,10 @@ groups_rise geometry sight task bits chained = λ i j d before within.
     let Differ : List Place → Type 0 = λ ps. AllPairs (λ one two. group one ≢ group two) ps in
     let differ : Differ (counted task.kind group all) = subst Differ (sym same) (groups_differ group all) in
     let rise = ended_rises geometry.groups (get_or (counted task.kind group all) i d).array (get_or (counted task.kind group all) j d).array
-      (omega (arith, places_rise geometry sight task bits i j d before within)) in
+    (omega (arith, places_rise geometry sight task bits i j d before within)) in
     omega (arith, rise, differ i j d before within)
 
 -- ---- what is accepted
-
--- the places of an accepted task: as many as its rows, each one that the rule gives, on arrays that rise
-pub record ArePlaces (geometry : Geometry) (sight : Sight) (task : Sketch) (bits : ℕ) (places : List Place) : Type 0 where
-  pub first : places ≡ take task.rows (places_for geometry sight task bits)
-  pub counted_is : length places ≡ task.rows
-  pub exist : All (λ place. place.array < array_count geometry) places
-  pub stand : All (λ place. IsPlaceOn geometry sight task bits place.array place) places
-  pub rise : AllPairs (λ one two. one.array < two.array) places
-  pub groups : task.kind ≡ SumaxSum → AllPairs (λ one two. group_number geometry one.array < group_number geometry two.array) places
 
 pairs-take : {X : Type 0} (R : X → X → Type 0) (n : ℕ) (xs : List X) → AllPairs R xs → AllPairs R (take n xs)
 pairs-take R zero xs holds = λ i j d before within. absurd (omega (arith, within))
@@ -220,8 +211,10 @@ unfolding placed
 placed_accepted geometry sight task bits places = by (nat_lt have task.rows) (nat_lt (length all) task.rows) refl where
   have : ℕ
   have = length (open_arrays geometry sight task)
+
   all : List Place
   all = places_for geometry sight task bits
+
   by : (t u : Bool) → nat_lt (length all) task.rows ≡ u
       → (if t then Err (NoUnit task.rows have) else (if u then Err (NoPartition task.rows (length all)) else Ok (take task.rows all))) ≡ Ok places
       → ArePlaces geometry sight task bits places

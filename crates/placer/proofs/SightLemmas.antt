@@ -73,7 +73,7 @@ size_among geometry kind size a zero bits found = absurd (cc)
 size_among geometry kind size a (suc n) bits found =
     by (λ later. size_among geometry kind size (a + 1) n bits later) (may_have geometry kind a && 2 ^ a == size) refl found where
       by : (find (λ b. may_have geometry kind b && 2 ^ b == size) (range_with_len (a + 1) n) ≡ Some bits
-            → (2 ^ bits ≡ size) × (bits < a + 1 + n) × (may_have geometry kind bits ≡ true))
+          → (2 ^ bits ≡ size) × (bits < a + 1 + n) × (may_have geometry kind bits ≡ true))
           → (t : Bool) → (may_have geometry kind a && 2 ^ a == size) ≡ t
           → cond t (Some a) (find (λ b. may_have geometry kind b && 2 ^ b == size) (range_with_len (a + 1) n)) ≡ Some bits
           → (2 ^ bits ≡ size) × (bits < a + suc n) × (may_have geometry kind bits ≡ true)
@@ -121,8 +121,8 @@ place_alike : (geometry : Geometry) (task : Sketch) (bits : ℕ) (one two : Sigh
 place_alike geometry task bits one two alike array within =
     ap₂ (λ t units. if t then place_of array (keys_for (slice_index_or units (group_number geometry array) []) task.key) (region_for geometry one bits array) else None) (alike.rules array within) alike.units
     ∙ ap (λ taken. if admits (rules_at two array) task.filter
-                   then place_of array (keys_for (units_at geometry two array) task.key) (region_in (bits_of geometry array) (least_bits_of geometry array) (slice_index_or taken array []) bits)
-                   else None) alike.taken
+    then place_of array (keys_for (units_at geometry two array) task.key) (region_in (bits_of geometry array) (least_bits_of geometry array) (slice_index_or taken array []) bits)
+    else None) alike.taken
 
 pub placed_alike : (geometry : Geometry) (task : Sketch) (bits : ℕ) (one two : Sight) → AreAlike geometry task one two
     → placed geometry one task bits ≡ placed geometry two task bits
@@ -132,13 +132,13 @@ placed_alike geometry task bits one two alike =
     let arrays : List ℕ = range_with_len 0 count in
     let below : All (λ a. a < count) arrays = range_below count 0 count (omega arith) in
     let opens : open_arrays geometry one task ≡ open_arrays geometry two task =
-      ap (counted task.kind (group_number geometry))
-      (filter_alike (is_open geometry one task) (is_open geometry two task) arrays (λ k d within. open_alike geometry task one two alike (get_or arrays k d) (below k d within))) in
+    ap (counted task.kind (group_number geometry))
+    (filter_alike (is_open geometry one task) (is_open geometry two task) arrays (λ k d within. open_alike geometry task one two alike (get_or arrays k d) (below k d within))) in
     let places : places_for geometry one task bits ≡ places_for geometry two task bits =
-      ap (counted task.kind (λ place. group_number geometry place.array))
-      (filter_map_alike (place_on geometry one task bits) (place_on geometry two task bits) arrays (λ k d within. place_alike geometry task bits one two alike (get_or arrays k d) (below k d within))) in
+    ap (counted task.kind (λ place. group_number geometry place.array))
+    (filter_map_alike (place_on geometry one task bits) (place_on geometry two task bits) arrays (λ k d within. place_alike geometry task bits one two alike (get_or arrays k d) (below k d within))) in
     ap₂ (λ ns ps. if nat_lt (length ns) task.rows then Err (NoUnit task.rows (length ns))
-                  else (if nat_lt (length ps) task.rows then Err (NoPartition task.rows (length ps)) else Ok (take task.rows ps))) opens places
+    else (if nat_lt (length ps) task.rows then Err (NoPartition task.rows (length ps)) else Ok (take task.rows ps))) opens places
 
 -- in which order an array's entries stand is all the same
 and_swap : (a b c : Bool) → (b && (a && c)) ≡ (a && (b && c))
@@ -165,8 +165,8 @@ pub placed_same : (geometry : Geometry) (task : Sketch) (bits : ℕ) (one two : 
 placed_same geometry task bits one two first sorted units taken =
     placed_alike geometry task bits one two (record {
       rules = λ array within.
-        sym (all_sorted (is_apart task.filter) first (rules_at one array)) ∙ ap (list_all (is_apart task.filter)) (sorted array within)
-        ∙ all_sorted (is_apart task.filter) first (rules_at two array);
+          sym (all_sorted (is_apart task.filter) first (rules_at one array)) ∙ ap (list_all (is_apart task.filter)) (sorted array within)
+          ∙ all_sorted (is_apart task.filter) first (rules_at two array);
       units = units;
       taken = taken;
     })

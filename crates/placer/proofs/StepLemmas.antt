@@ -30,6 +30,7 @@ still_there group z x other [] = refl
 still_there {X} group z x other (y ∷ ys) = by (still_there group z x other ys) (eqb (group y) (group z)) refl where
   rest : List X
   rest = filter (λ y. not (group y == group z)) ys
+
   by : is_there group x rest ≡ is_there group x ys → (t : Bool) → eqb (group y) (group z) ≡ t
       → is_there group x (cond (not t) (y ∷ rest) rest) ≡ is_there group x (y ∷ ys)
   by more true e =
@@ -47,6 +48,7 @@ never_there {X} group z x (y ∷ ys) none =
     (never_there group z x ys (or_parts (group x == group y) (is_there group x ys) none).1) (group y == group z) where
       rest : List X
       rest = filter (λ y. not (group y == group z)) ys
+
       by : eqb (group x) (group y) ≡ false → is_there group x rest ≡ false → (t : Bool)
           → is_there group x (cond (not t) (y ∷ rest) rest) ≡ false
       by here more true = more
@@ -59,8 +61,10 @@ groups_more {X} group (z ∷ zs) x =
     ap (λ ys. z ∷ filter (λ y. not (group y == group z)) ys) (groups_more group zs x) ∙ by (is_there group x firsts) (eqb (group x) (group z)) refl refl where
       firsts : List X
       firsts = first_of_groups group zs
+
       out : X → Bool
       out y = not (group y == group z)
+
       by : (t u : Bool) → is_there group x firsts ≡ t → eqb (group x) (group z) ≡ u
           → z ∷ filter out (if t then firsts else (firsts ++ x ∷ []))
           ≡ (if u || is_there group x (filter out firsts) then z ∷ filter out firsts else ((z ∷ filter out firsts) ++ x ∷ []))
@@ -126,6 +130,7 @@ unfolding with_one
 one_more {X} most kind group xs x = by (is_chained kind) (is_there group x full) (is_there group x (take most full)) refl refl ∙ sym (ap (take most) (counted_more kind group xs x)) where
   full : List X
   full = counted kind group xs
+
   by : (c t u : Bool) → is_there group x full ≡ t → is_there group x (take most full) ≡ u
       → (if c && u then take most full else take most (take most full ++ x ∷ [])) ≡ take most (if c && t then full else (full ++ x ∷ []))
   by false t u e d = take_last most full x
@@ -154,8 +159,10 @@ array_more most kind group test n passes e =
     by passes ∙ ap (λ ns. take most (counted kind group ns)) (sym whole) where
       before : List ℕ
       before = filter test (range_with_len 0 n)
+
       whole : filter test (range_with_len 0 (n + 1)) ≡ before ++ cond passes (n ∷ []) []
       whole = ap (filter test) (range_next n) ∙ filter-append test (range_with_len 0 n) (n ∷ []) ∙ ap (λ t. before ++ cond t (n ∷ []) []) (sym e)
+
       by : (t : Bool) → with_one most kind group (if t then Some n else None) (take most (counted kind group before))
           ≡ take most (counted kind group (before ++ cond t (n ∷ []) []))
       by true = one_more most kind group before n
@@ -170,10 +177,13 @@ place_more {X} most kind group place_on n place e =
     by place ∙ ap (λ xs. take most (counted kind group xs)) (sym whole) where
       before : List X
       before = filter_map place_on (range_with_len 0 n)
+
       here : Option X → List X
       here o = cons_option o []
+
       whole : filter_map place_on (range_with_len 0 (n + 1)) ≡ before ++ here place
       whole = ap (filter_map place_on) (range_next n) ∙ filter_map-append place_on (range_with_len 0 n) (n ∷ []) ∙ ap (λ o. before ++ here o) (sym e)
+
       by : (o : Option X) → with_one most kind group o (take most (counted kind group before)) ≡ take most (counted kind group (before ++ here o))
       by None = sym (ap (λ xs. take most (counted kind group xs)) (append-nil before))
       by (Some x) = one_more most kind group before x
@@ -191,10 +201,11 @@ length_short n xs = by (cases_lt (length xs) n) where
 pub judged_is : (need : ℕ) (arrays : List ℕ) (places : List Place)
     → judged need (take need arrays) (take need places)
     ≡ (if nat_lt (length arrays) need then Err (NoUnit need (length arrays))
-       else (if nat_lt (length places) need then Err (NoPartition need (length places)) else Ok (take need places)))
+    else (if nat_lt (length places) need then Err (NoPartition need (length places)) else Ok (take need places)))
 judged_is need arrays places = by (nat_lt (length arrays) need) (nat_lt (length places) need) refl refl where
   later : Result (List Place) Refusal
   later = if nat_lt (length (take need places)) need then Err (NoPartition need (length (take need places))) else Ok (take need places)
+
   by : (t u : Bool) → nat_lt (length arrays) need ≡ t → nat_lt (length places) need ≡ u
       → judged need (take need arrays) (take need places)
       ≡ (if t then Err (NoUnit need (length arrays)) else (if u then Err (NoPartition need (length places)) else Ok (take need places)))

@@ -146,7 +146,9 @@ fn has_place(places: &[Place], shape: &Shape, group: u32) -> bool
     requires { All (λ other. other.array < array_count shape.now) places.now }
     ensures { result ≡ list_any (λ other. group == group_number shape.now other.array) places.now }
 {
-    places.iter().any(|other| group == shape.group_of(other.array))
+    places
+        .iter()
+        .any(|other| group == shape.group_of(other.array))
 }
 
 /// Appends an item where there are fewer than so many.
@@ -161,7 +163,11 @@ fn put<T: Default + Drop>(items: &mut ArrayVec<T, 4>, most: u32, item: T)
 }
 
 /// The places, or how many arrays there are too few for so many rows.
-fn judged(need: u32, arrays: &ArrayVec<u32, 4>, places: ArrayVec<Place, 4>) -> Result<Placement, Refusal>
+fn judged(
+    need: u32,
+    arrays: &ArrayVec<u32, 4>,
+    places: ArrayVec<Place, 4>,
+) -> Result<Placement, Refusal>
     ensures { result ≡ judged need arrays.now.items places.items }
 {
     let have = arrays.len() as u32;
@@ -174,3 +180,6 @@ fn judged(need: u32, arrays: &ArrayVec<u32, 4>, places: ArrayVec<Place, 4>) -> R
     }
     Ok(Placement { places })
 }
+
+#[cfg(test)]
+mod tests;

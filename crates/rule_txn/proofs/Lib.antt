@@ -8,3 +8,4 @@ mod Tables
 mod Settled
 mod Again
 mod Uses
+mod Served

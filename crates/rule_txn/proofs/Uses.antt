@@ -110,7 +110,7 @@ front_empty : {X : Type 0} (xs ys : List X) → xs ++ ys ≡ [] → xs ≡ []
 front_empty [] ys e = refl
 front_empty (x ∷ xs) ys e = absurd (cc)
 
-still_empty : (front back : List GroupUse) (unit : ℕ) → unit_uses (front ++ back) unit ≡ [] → unit_uses front unit ≡ []
+pub still_empty : (front back : List GroupUse) (unit : ℕ) → unit_uses (front ++ back) unit ≡ [] → unit_uses front unit ≡ []
 still_empty front back unit e = front_empty (unit_uses front unit) (unit_uses back unit) (sym (filter-append (λ (v : GroupUse). v.unit == unit) front back) ∙ e)
 
 turned : (u v : GroupUse) → Agree u v → Agree v u

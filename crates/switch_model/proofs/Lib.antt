@@ -1,6 +1,11 @@
+pub mod AddLemmas
+pub mod CallLemmas
+pub mod EditLemmas
 pub mod IsolationLemmas
 pub mod JudgedLemmas
 pub mod ListLemmas
 pub mod RestorationLemmas
+pub mod SightLemmas
 pub mod StandLemmas
+pub mod UnitLemmas
 pub mod Values

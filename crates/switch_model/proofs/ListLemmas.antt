@@ -310,3 +310,13 @@ position_here {X} test front back x none here =
       first (y ∷ front) none =
           ap (λ (b : Bool). cond (not b) (1 + position_or_len test (front ++ x ∷ back)) 0) (All-head (λ y. test y ≡ false) y front none)
           ∙ (let rest : position_or_len test (front ++ x ∷ back) ≡ length front = first front (All-tail (λ y. test y ≡ false) y front none) in omega arith)
+
+-- what is true of each element between what stands before and behind it
+split_on : {X : Type 0} (P : X → Type 0) (before xs : List X) → ((front : List X) (x : X) (back : List X) → before ++ xs ≡ front ++ x ∷ back → P x) → All P xs
+split_on P before [] each = All-nil P
+split_on P before (x ∷ xs) each =
+    All-cons P x xs (each before x xs refl)
+    (split_on P (before ++ x ∷ []) xs (λ front y back e. each front y back (sym (append_assoc before (x ∷ []) xs) ∙ e)))
+
+pub all_split : {X : Type 0} (P : X → Type 0) (xs : List X) → ((front : List X) (x : X) (back : List X) → xs ≡ front ++ x ∷ back → P x) → All P xs
+all_split P xs each = split_on P [] xs each

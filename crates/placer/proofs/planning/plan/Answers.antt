@@ -9,9 +9,10 @@ use Rattle.partition_pool.specs.Pools.{PoolState}
 use Rattle.placer.specs.declared.places.Place.{Place}
 use Rattle.placer.specs.Sights.{Sight, bits_for}
 use Rattle.placer.specs.Placement.{counted, is_open, no_pool, place_on, placed, pool_at, sight_in}
+use Rattle.placer.specs.Laws.{IsPlaceOn}
 use Rattle.placer.specs.Steps.{with_one}
 use Rattle.placer.proofs.LookLemmas.{Looks, open_seen, place_seen}
-use Rattle.placer.proofs.PlacementLemmas.{All-counted, IsPlaceOn, placed_each, range_below}
+use Rattle.placer.proofs.PlacementLemmas.{All-counted, placed_each, range_below}
 use Rattle.placer.proofs.StepLemmas.{array_more, place_more, placed_judged}
 use Rattle.placer.proofs.planning.plan.Goals as goal
 
@@ -33,7 +34,7 @@ put_place-requires-clause-exist c =
     let Q : Place → Type 0 = λ place. (place.array < array_count geometry) × IsPlaceOn geometry sight c.args.task.now c.in-Some.bits place.array place in
     let k : ℕ = c.arrays.array in
     let all = placed_each geometry sight c.args.task.now c.in-Some.bits (array_count geometry) (range_with_len 0 k)
-      (range_below (array_count geometry) 0 k (omega (arith, c.arrays-test.true, c.arrays-array-end.ensures.value))) in
+    (range_below (array_count geometry) 0 k (omega (arith, c.arrays-test.true, c.arrays-array-end.ensures.value))) in
     All-same P c.arrays.places.items _ c.arrays.invariant.places
     (All-take P c.args.task.now.rows _ (All-counted P c.args.task.now.kind (λ place. group_number geometry place.array) _ (All-weaker Q P (λ place h. h.0) _ all)))
 
@@ -57,19 +58,19 @@ arrays-preserved c =
       group_is = c.index-units-group.is ∙ ap (λ g. get_or units g c.index-units-group.result) c.group_of-group.ensures.value;
     } in
     let same_bits : pool.bits ≡ bits_of geometry k =
-      ap (λ (p : PoolState). p.bits) (get_or_read pools k pool in_pools c.index-pools-array.is no_pool) ∙ c.requires.bits k within in
+    ap (λ (p : PoolState). p.bits) (get_or_read pools k pool in_pools c.index-pools-array.is no_pool) ∙ c.requires.bits k within in
     let same_split : pool.split ≡ geometry.split =
-      ap (λ (p : PoolState). p.split) c.index-pools-array.is ∙ c.requires.split k pool in_pools in
+    ap (λ (p : PoolState). p.split) c.index-pools-array.is ∙ c.requires.split k pool in_pools in
     let seen = open_seen geometry tables units pools task k c.index-tables-array.result c.index-units-group.result c.keys_on-keys.result looks c.keys_on-keys.ensures in
     let stands = place_seen geometry tables units pools task bits k c.index-tables-array.result c.index-units-group.result pool
-      c.keys_on-keys.result c.free_in-region.result looks in_pools c.index-pools-array.is same_bits same_split c.keys_on-keys.ensures c.free_in-region.ensures in
+    c.keys_on-keys.result c.free_in-region.result looks in_pools c.index-pools-array.is same_bits same_split c.keys_on-keys.ensures c.free_in-region.ensures in
     record {
       arrays = c.put_open.ensures.items
-        ∙ ap (λ ns. with_one task.rows task.kind (group_number geometry) (if c.is_some.result then Some k else None) ns) c.arrays.invariant.arrays
-        ∙ array_more task.rows task.kind (group_number geometry) (is_open geometry sight task) k c.is_some.result (c.is_some.ensures ∙ seen);
+          ∙ ap (λ ns. with_one task.rows task.kind (group_number geometry) (if c.is_some.result then Some k else None) ns) c.arrays.invariant.arrays
+          ∙ array_more task.rows task.kind (group_number geometry) (is_open geometry sight task) k c.is_some.result (c.is_some.ensures ∙ seen);
       places = c.put_place.ensures
-        ∙ ap (λ ps. with_one task.rows task.kind (λ place. group_number geometry place.array) c.place_of.result ps) c.arrays.invariant.places
-        ∙ place_more task.rows task.kind (λ place. group_number geometry place.array) (place_on geometry sight task bits) k c.place_of.result (c.place_of.ensures ∙ stands);
+          ∙ ap (λ ps. with_one task.rows task.kind (λ place. group_number geometry place.array) c.place_of.result ps) c.arrays.invariant.places
+          ∙ place_more task.rows task.kind (λ place. group_number geometry place.array) (place_on geometry sight task bits) k c.place_of.result (c.place_of.ensures ∙ stands);
     }
 
 pub returns : goal.returns
@@ -82,4 +83,4 @@ returns c =
     let Answers : Option ℕ → Type 0 = λ o. IfSome o (λ bits. c.judged.result ≡ placed geometry sight task bits) in
     subst Answers (c.in-Some.ensures.bits ∙ ap₂ (bits_for geometry) c.kind.ensures c.size.ensures)
     (c.judged.ensures
-     ∙ placed_judged geometry sight task c.in-Some.bits k c.rows.result c.arrays.arrays.items c.arrays.places.items all c.rows.ensures.value c.arrays.invariant.arrays c.arrays.invariant.places)
+    ∙ placed_judged geometry sight task c.in-Some.bits k c.rows.result c.arrays.arrays.items c.arrays.places.items all c.rows.ensures.value c.arrays.invariant.arrays c.arrays.invariant.places)
