@@ -1,3 +1,4 @@
+mod StageSeats
 mod StageFills
 mod StageLeases
 mod Tasks

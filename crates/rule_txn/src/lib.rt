@@ -5,6 +5,7 @@ mod faults;
 mod fills;
 mod making;
 mod rows;
+mod seats;
 mod stage;
 
 pub use faults::{AddFault, ReleaseFault, ResizeFault, StartFail, Unknown};

@@ -1,24 +1,28 @@
 //! The pools and the rules, and what a change does to them.
-ghost use Rattle.std.specs.Prelude.{◌≡◌, ◌<◌, ◌≤◌, [], length, Some, None, IfOk, IfSome, OnErr};
+ghost use Rattle.std.specs.Prelude.{◌≡◌, ◌≢◌, ◌<◌, ◌≤◌, [], length, map, Some, None, IfOk, IfSome, IsSome, MatchResult, OnErr};
 ghost use Rattle.outside.specs.Faults.{HasCause};
 ghost use Rattle.outside.specs.Told.{Told, Stays};
-ghost use Rattle.std.specs.List.{All};
+ghost use Rattle.std.specs.List.{All, AllPairs};
 ghost use Rattle.addr_translate.specs.Geometry.{array_count};
 ghost use Rattle.partition_pool.specs.Pools.{PoolState};
 ghost use Rattle.rule_txn.specs.State.{State, there, Gives, HasGiven, with_region, less_region};
 ghost use Rattle.rule_txn.specs.Rows.{next_lease, with_lease, less_lease, fresh_leases, lives, frozens, leased_rows, AreServed, moved_all, CanMoveAll, taken, given, given_back, GivesAt, CanTake, IsLent, CanGive, CanGiveBack, with_use, with_uses, less_use, less_uses, CanServe, CanServeAll, CanFree, CanFreeAll, first_turn, turn_after, with_row, with_rows, less_row, less_rows, CanSettle, CanSettleAll, CanLeave, CanLeaveAll};
-ghost use Rattle.rule_txn.specs.Stages.{HadRoom, HadRoomAll};
+ghost use Rattle.rule_txn.specs.Stages.{HadRoom, HadRoomAll, ArePools, IsPlace, ArePlaces, found_in, served_on, arrays_there};
+ghost use Rattle.placer.specs.Sights.{bits_for};
+ghost use Rattle.placer.specs.Placement.{placed, sight_in, first_full};
 ghost use Rattle.rule_txn.specs.Switch.{first_state};
 ghost use Rattle.rule_txn.specs.Fills.{Fills, AreInFile};
 
 use crate::fills::fill_all;
 use crate::making::{close_pools, free_pools};
 use crate::rows::{Leased, Served, Turn, lease_rows, move_rows, part_rows};
+use crate::seats::{arrays_there, places_in, served_by};
 use addr_translate::Shape;
 use hash_units::HashKey;
 use key_mask::Mask;
 use partition_pool::{Frozen, Lease, Live, Pool};
 use pipe_core::Pipe;
+use placer::{NoRoom, Place, Refusal, plan, plan_resize};
 use reg_file::{DeviceFault, RegFile};
 use sketch_defs::Task;
 use sketch_lower::lower;
@@ -65,6 +69,60 @@ impl Stage {
         ensures { result.now ≡ self.now.pools }
     {
         &self.pools
+    }
+
+    /// Where the rows of a new task go, the first row's place first.
+    pub(crate) fn plan(&self, task: &Task) -> Result<[Option<Place>; 4], Refusal>
+        requires pools { ArePools self.now.geometry self.now.pools }
+        requires size { IsSome (bits_for self.now.geometry task.now.kind task.now.size) }
+        ensures { IfSome (bits_for self.now.geometry task.now.kind task.now.size)
+            (λ bits. found_in result ≡ placed self.now.geometry (sight_in self.now.tables self.now.groups self.now.pools) task.now bits) }
+    {
+        let pipe = &self.pipe;
+        match plan(*pipe.shape(), pipe.tables(), pipe.groups(), &self.pools, task) {
+            Ok(found) => Ok(places_in(&found)),
+            Err(refusal) => Err(refusal),
+        }
+    }
+
+    fn served_at(&self, task: &Task, place: &Option<Place>) -> Option<Served>
+        requires { IfSome place.now (IsPlace self.now.geometry self.now.groups) }
+        ensures { result ≡ served_on self.now.geometry self.now.groups task.now.key place.now }
+    {
+        match place {
+            None => None,
+            Some(place) => {
+                let group = self.pipe.shape().group_of(place.array);
+                let units = self.pipe.units(group);
+                Some(served_by(units, task.key(), place.keys))
+            }
+        }
+    }
+
+    /// The units of planned rows, each with its mask.
+    pub(crate) fn served_all(&self, task: &Task, places: &[Option<Place>; 4]) -> [Option<Served>; 4]
+        requires { ArePlaces self.now.geometry self.now.groups places.now }
+        ensures { result ≡ map (served_on self.now.geometry self.now.groups task.now.key) places.now }
+    {
+        [
+            self.served_at(task, &places[0]),
+            self.served_at(task, &places[1]),
+            self.served_at(task, &places[2]),
+            self.served_at(task, &places[3]),
+        ]
+    }
+
+    /// Whether the array of each row has a free partition of `2^bits` registers, or else the first
+    /// row whose array has none.
+    pub(crate) fn room_for(&self, rows: &[Option<Leased>; 4], bits: u32) -> Result<(), NoRoom>
+        requires exist { All (λ array. array < length self.now.pools) (arrays_there rows.now) }
+        requires differ { AllPairs (λ one two. one ≢ two) (arrays_there rows.now) }
+        requires size { bits ≤ 20 }
+        ensures { MatchResult result (λ _. first_full self.now.pools bits (arrays_there rows.now) ≡ None)
+            (λ refusal. first_full self.now.pools bits (arrays_there rows.now) ≡ Some refusal.row) }
+    {
+        let arrays = arrays_there(rows);
+        plan_resize(&self.pools, arrays.as_slice(), bits)
     }
 
     fn take_one(&mut self, array: u32, bits: u32) -> Lease<Live>
