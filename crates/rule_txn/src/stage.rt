@@ -3,29 +3,28 @@ ghost use Rattle.std.specs.Prelude.{◌≡◌, ◌≢◌, ◌<◌, ◌≤◌, []
 ghost use Rattle.outside.specs.Faults.{HasCause};
 ghost use Rattle.outside.specs.Told.{Told, Stays};
 ghost use Rattle.std.specs.List.{All, AllPairs};
-ghost use Rattle.addr_translate.specs.Geometry.{array_count};
 ghost use Rattle.partition_pool.specs.Pools.{PoolState};
-ghost use Rattle.rule_txn.specs.State.{State, there, Gives, HasGiven, with_region, less_region};
-ghost use Rattle.rule_txn.specs.Rows.{next_lease, with_lease, less_lease, fresh_leases, lives, frozens, leased_rows, AreServed, moved_all, CanMoveAll, taken, given, given_back, GivesAt, CanTake, IsLent, CanGive, CanGiveBack, with_use, with_uses, less_use, less_uses, CanServe, CanServeAll, CanFree, CanFreeAll, first_turn, turn_after, with_row, with_rows, less_row, less_rows, CanSettle, CanSettleAll, CanLeave, CanLeaveAll};
-ghost use Rattle.rule_txn.specs.Stages.{HadRoom, HadRoomAll, ArePools, IsPlace, ArePlaces, found_in, served_on, arrays_there};
+ghost use Rattle.rule_txn.specs.Rows.{fresh_leases, taken, CanTake, leased_rows, AreServed, moved_all, CanMoveAll, lives, frozens, given, CanGive, with_uses, less_uses, CanServeAll, CanFreeAll, first_turn, with_rows, less_rows, CanSettleAll, CanLeaveAll};
+ghost use Rattle.rule_txn.specs.Stages.{HadRoomAll, ArePools, IsPlace, ArePlaces, found_in, served_on, arrays_there};
 ghost use Rattle.placer.specs.Sights.{bits_for};
 ghost use Rattle.placer.specs.Placement.{placed, sight_in, first_full};
 ghost use Rattle.rule_txn.specs.Switch.{first_state};
 ghost use Rattle.rule_txn.specs.Fills.{Fills, AreInFile};
 
+mod leases;
+mod rules;
+
 use crate::fills::fill_all;
 use crate::making::{close_pools, free_pools};
-use crate::rows::{Leased, Served, Turn, lease_rows, move_rows, part_rows};
+use crate::rows::{Leased, Served, lease_rows, move_rows, part_rows};
 use crate::seats::{arrays_there, places_in, served_by};
 use addr_translate::Shape;
 use hash_units::HashKey;
-use key_mask::Mask;
 use partition_pool::{Frozen, Lease, Live, Pool};
 use pipe_core::Pipe;
 use placer::{NoRoom, Place, Refusal, plan, plan_resize};
 use reg_file::{DeviceFault, RegFile};
 use sketch_defs::Task;
-use sketch_lower::lower;
 use std::alloc::{AllocError, Global};
 use std::marker::Model;
 
@@ -79,7 +78,13 @@ impl Stage {
             (λ bits. found_in result ≡ placed self.now.geometry (sight_in self.now.tables self.now.groups self.now.pools) task.now bits) }
     {
         let pipe = &self.pipe;
-        match plan(*pipe.shape(), pipe.tables(), pipe.groups(), &self.pools, task) {
+        match plan(
+            *pipe.shape(),
+            pipe.tables(),
+            pipe.groups(),
+            &self.pools,
+            task,
+        ) {
             Ok(found) => Ok(places_in(&found)),
             Err(refusal) => Err(refusal),
         }
@@ -125,116 +130,14 @@ impl Stage {
         plan_resize(&self.pools, arrays.as_slice(), bits)
     }
 
-    fn take_one(&mut self, array: u32, bits: u32) -> Lease<Live>
-        requires { Gives bits self.old.pools array }
-        ensures lease { Some result ≡ next_lease bits self.old.pools (Some array) }
-        ensures state { self.new ≡ record self.old { pools = with_lease self.old.pools (Some result) } }
-        ensures room { HadRoom self.old.pools (Some result) }
-    {
-        match self.pools[array as usize].take(bits) {
-            Some(lease) => lease,
-            None => unreachable!(),
-        }
-    }
-
-    fn take(&mut self, array: Option<u32>, bits: u32) -> Option<Lease<Live>>
-        requires { GivesAt bits self.old.pools array }
-        ensures lease { result ≡ next_lease bits self.old.pools array }
-        ensures state { self.new ≡ record self.old { pools = with_lease self.old.pools result } }
-        ensures room { HadRoom self.old.pools result }
-    {
-        match array {
-            Some(array) => Some(self.take_one(array, bits)),
-            None => None,
-        }
-    }
-
-    fn take_all(&mut self, arrays: [Option<u32>; 4], bits: u32) -> [Option<Lease<Live>>; 4]
-        requires { CanTake bits self.old.pools arrays }
-        ensures leases { result ≡ fresh_leases bits self.old.pools arrays }
-        ensures state { self.new ≡ record self.old { pools = taken result self.old.pools } }
-        ensures room { HadRoomAll self.old.pools result }
-    {
-        let [one, two, three, four] = arrays;
-        let one = self.take(one, bits);
-        let two = self.take(two, bits);
-        let three = self.take(three, bits);
-        let four = self.take(four, bits);
-        [one, two, three, four]
-    }
-
-    fn give_one(&mut self, lease: Lease<Live>)
-        requires { IsLent self.old.pools (Some lease) }
-        ensures { self.new ≡ record self.old { pools = less_lease self.old.pools (Some lease) } }
-    {
-        let array = lease.pool() as usize;
-        self.pools[array].give(lease);
-    }
-
-    fn give(&mut self, lease: Option<Lease<Live>>)
-        requires { IsLent self.old.pools lease }
-        ensures { self.new ≡ record self.old { pools = less_lease self.old.pools lease } }
-    {
-        if let Some(lease) = lease {
-            self.give_one(lease);
-        }
-    }
-
-    fn give_frozen_one(&mut self, lease: Lease<Frozen>)
-        requires { IsLent self.old.pools (Some lease) }
-        ensures { self.new ≡ record self.old { pools = less_lease self.old.pools (Some lease) } }
-    {
-        let array = lease.pool() as usize;
-        self.pools[array].give_frozen(lease);
-    }
-
-    fn give_frozen(&mut self, lease: Option<Lease<Frozen>>)
-        requires { IsLent self.old.pools lease }
-        ensures { self.new ≡ record self.old { pools = less_lease self.old.pools lease } }
-    {
-        if let Some(lease) = lease {
-            self.give_frozen_one(lease);
-        }
-    }
-
-    /// Gives back leases that were just taken, the last first.
-    fn give_back(&mut self, leases: [Option<Lease<Live>>; 4])
-        requires { CanGiveBack self.old.pools leases }
-        ensures { self.new ≡ record self.old { pools = given_back leases self.old.pools } }
-    {
-        let [one, two, three, four] = leases;
-        self.give(four);
-        self.give(three);
-        self.give(two);
-        self.give(one);
-    }
-
-    /// Gives back leases of live rows.
-    fn give_all(&mut self, leases: [Option<Lease<Live>>; 4])
-        requires { CanGive self.old.pools leases }
-        ensures { self.new ≡ record self.old { pools = given leases self.old.pools } }
-    {
-        let [one, two, three, four] = leases;
-        self.give(one);
-        self.give(two);
-        self.give(three);
-        self.give(four);
-    }
-
-    /// Gives back leases of frozen rows.
-    pub(crate) fn give_frozen_all(&mut self, leases: [Option<Lease<Frozen>>; 4])
-        requires { CanGive self.old.pools leases }
-        ensures { self.new ≡ record self.old { pools = given leases self.old.pools } }
-    {
-        let [one, two, three, four] = leases;
-        self.give_frozen(one);
-        self.give_frozen(two);
-        self.give_frozen(three);
-        self.give_frozen(four);
-    }
-
     /// Takes a partition of `2^bits` registers of each array and fills it, or leaves all as it was.
-    pub(crate) fn fresh<R: RegFile>(&mut self, regs: &mut R, arrays: [Option<u32>; 4], bits: u32, value: u32) -> Result<[Option<Lease<Live>>; 4], DeviceFault>
+    pub(crate) fn fresh<R: RegFile>(
+        &mut self,
+        regs: &mut R,
+        arrays: [Option<u32>; 4],
+        bits: u32,
+        value: u32,
+    ) -> Result<[Option<Lease<Live>>; 4], DeviceFault>
         requires can { CanTake bits self.old.pools arrays }
         requires file { AreInFile (R.dims regs.old) (fresh_leases bits self.old.pools arrays) }
         ensures leases { IfOk result (λ leases. leases ≡ fresh_leases bits self.old.pools arrays) }
@@ -256,119 +159,22 @@ impl Stage {
         }
     }
 
-    /// One use more on the units of a row.
-    fn serve(&mut self, task: &Task, row: &Option<Leased>)
-        requires { CanServe self.old.geometry task.now.key self.old.groups row.now }
-        ensures { self.new ≡ record self.old { groups = with_use self.old.geometry task.now.key self.old.groups row.now } }
-    {
-        if let Some(row) = row {
-            let group = self.pipe.shape().group_of(row.array());
-            let _ = self.pipe.serve(group, task.key());
-        }
-    }
-
-    /// One use more on the units of each row.
-    fn serve_all(&mut self, task: &Task, rows: &[Option<Leased>; 4])
-        requires { CanServeAll self.old.geometry task.now.key self.old.groups rows.now }
-        ensures { self.new ≡ record self.old { groups = with_uses self.old.geometry task.now.key self.old.groups rows.now } }
-    {
-        let [one, two, three, four] = rows;
-        self.serve(task, one);
-        self.serve(task, two);
-        self.serve(task, three);
-        self.serve(task, four);
-    }
-
-    /// One use less on the units of a row.
-    fn free(&mut self, row: &Option<Leased>)
-        requires { CanFree self.old.geometry self.old.groups row.now }
-        ensures { self.new ≡ record self.old { groups = less_use self.old.geometry self.old.groups row.now } }
-    {
-        if let Some(row) = row {
-            let group = self.pipe.shape().group_of(row.array());
-            self.pipe.free(group, row.keys());
-        }
-    }
-
-    /// One use less on the units of each row.
-    fn free_all(&mut self, rows: &[Option<Leased>; 4])
-        requires { CanFreeAll self.old.geometry self.old.groups rows.now }
-        ensures { self.new ≡ record self.old { groups = less_uses self.old.geometry self.old.groups rows.now } }
-    {
-        let [one, two, three, four] = rows;
-        self.free(one);
-        self.free(two);
-        self.free(three);
-        self.free(four);
-    }
-
-    /// Installs the entry of a row, and answers the turn of the next.
-    fn install(&mut self, task: &Task, turn: Turn, row: &Option<Leased>) -> Turn
-        requires { CanSettle self.old.geometry task.now turn self.old.tables row.now }
-        ensures turn { result ≡ turn_after turn row.now }
-        ensures state { self.new ≡ record self.old { tables = with_row task.now turn self.old.tables row.now } }
-    {
-        match row {
-            None => turn,
-            Some(row) => {
-                let entry = lower(task, turn.row, row.keys(), row.region(), turn.before);
-                self.pipe.install(row.array(), entry);
-                Turn {
-                    row: turn.row + 1,
-                    before: Some(row.array()),
-                }
-            }
-        }
-    }
-
-    /// Installs the entries of a task's rows.
-    fn install_all(&mut self, task: &Task, rows: &[Option<Leased>; 4])
-        requires { CanSettleAll self.old.geometry task.now first_turn self.old.tables rows.now }
-        ensures { self.new ≡ record self.old { tables = with_rows task.now first_turn self.old.tables rows.now } }
-    {
-        let [one, two, three, four] = rows;
-        let turn = Turn {
-            row: 0,
-            before: None,
-        };
-        let turn = self.install(task, turn, one);
-        let turn = self.install(task, turn, two);
-        let turn = self.install(task, turn, three);
-        self.install(task, turn, four);
-    }
-
-    /// Takes the entry of a row out of its table.
-    fn uninstall(&mut self, row: &Option<Leased>)
-        requires { CanLeave self.old.geometry self.old.tables row.now }
-        ensures { self.new ≡ record self.old { tables = less_row self.old.tables row.now } }
-    {
-        if let Some(row) = row {
-            let _ = self.pipe.uninstall(row.array(), row.region().base);
-        }
-    }
-
-    /// Takes the entries of rows out of their tables.
-    fn uninstall_all(&mut self, rows: &[Option<Leased>; 4])
-        requires { CanLeaveAll self.old.geometry self.old.tables rows.now }
-        ensures { self.new ≡ record self.old { tables = less_rows self.old.tables rows.now } }
-    {
-        let [one, two, three, four] = rows;
-        self.uninstall(one);
-        self.uninstall(two);
-        self.uninstall(three);
-        self.uninstall(four);
-    }
-
     /// Sets rows on their leases, each with its units: one use more on the units, and their entries
     /// installed.
-    pub(crate) fn settle_all(&mut self, task: &Task, served: [Option<Served>; 4], leases: [Option<Lease<Live>>; 4]) -> [Option<Leased>; 4]
+    pub(crate) fn settle_all(
+        &mut self,
+        task: &Task,
+        served: [Option<Served>; 4],
+        leases: [Option<Lease<Live>>; 4],
+    ) -> [Option<Leased>; 4]
         requires served { AreServed served 0 leases }
         requires units { CanServeAll self.old.geometry task.now.key self.old.groups (leased_rows served 0 leases) }
         requires entries { CanSettleAll self.old.geometry task.now first_turn self.old.tables (leased_rows served 0 leases) }
         ensures rows { result ≡ leased_rows served 0 leases }
         ensures state { self.new ≡ record self.old {
-            tables = with_rows task.now first_turn self.old.tables result;
-            groups = with_uses self.old.geometry task.now.key self.old.groups result } }
+          tables = with_rows task.now first_turn self.old.tables result;
+          groups = with_uses self.old.geometry task.now.key self.old.groups result;
+        } }
     {
         let rows = lease_rows(served, leases);
         self.serve_all(task, &rows);
@@ -377,7 +183,12 @@ impl Stage {
     }
 
     /// Moves rows to new leases of their arrays, and freezes their own ones. Their units stay.
-    pub(crate) fn move_all(&mut self, task: &Task, rows: [Option<Leased>; 4], leases: [Option<Lease<Live>>; 4]) -> [Option<Leased>; 4]
+    pub(crate) fn move_all(
+        &mut self,
+        task: &Task,
+        rows: [Option<Leased>; 4],
+        leases: [Option<Lease<Live>>; 4],
+    ) -> [Option<Leased>; 4]
         requires moves { CanMoveAll rows leases }
         requires leave { CanLeaveAll self.old.geometry self.old.tables rows }
         requires entries { CanSettleAll self.old.geometry task.now first_turn (less_rows self.old.tables rows) (moved_all rows leases) }
@@ -398,9 +209,10 @@ impl Stage {
         requires leases { CanGive self.old.pools (lives rows) }
         ensures frozen { result ≡ frozens rows }
         ensures state { self.new ≡ record self.old {
-            pools = given (lives rows) self.old.pools;
-            tables = less_rows self.old.tables rows;
-            groups = less_uses self.old.geometry self.old.groups rows } }
+          pools = given (lives rows) self.old.pools;
+          tables = less_rows self.old.tables rows;
+          groups = less_uses self.old.geometry self.old.groups rows;
+        } }
     {
         self.uninstall_all(&rows);
         self.free_all(&rows);

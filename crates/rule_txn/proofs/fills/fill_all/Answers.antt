@@ -21,6 +21,6 @@ returns-clause-contents g c =
     let s3 = contents c.fill_one-3.new.regs in
     let s4 = contents c.fill_one-4.new.regs in
     let all_ = fills_more x1 (x2 ∷ x3 ∷ x4 ∷ []) v c.fill_one.result c.in_ok-fill_one.field-0 r s0 s1 s4 c.in_ok-fill_one.was c.fill_one.ensures.contents
-      (fills_more x2 (x3 ∷ x4 ∷ []) v c.fill_one-2.result c.in_ok-fill_one-2.field-0 r s1 s2 s4 c.in_ok-fill_one-2.was c.fill_one-2.ensures.contents
-        (fills_more x3 (x4 ∷ []) v c.fill_one-3.result c.in_ok-fill_one-3.field-0 r s2 s3 s4 c.in_ok-fill_one-3.was c.fill_one-3.ensures.contents c.fill_one-4.ensures.contents)) in
+    (fills_more x2 (x3 ∷ x4 ∷ []) v c.fill_one-2.result c.in_ok-fill_one-2.field-0 r s1 s2 s4 c.in_ok-fill_one-2.was c.fill_one-2.ensures.contents
+    (fills_more x3 (x4 ∷ []) v c.fill_one-3.result c.in_ok-fill_one-3.field-0 r s2 s3 s4 c.in_ok-fill_one-3.was c.fill_one-3.ensures.contents c.fill_one-4.ensures.contents)) in
     subst (λ ys. Told (Fills ys v r) s0 s4) (sym e) all_
