@@ -1,3 +1,4 @@
+mod StagePlans
 mod StageSeats
 mod StageFills
 mod StageLeases
