@@ -7,3 +7,5 @@ mod Settled
 mod Again
 mod Uses
 mod Served
+mod Counts
+mod Bounds
