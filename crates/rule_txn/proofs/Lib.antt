@@ -1,3 +1,6 @@
+mod StageSeats
+mod StageFills
+mod StageLeases
 mod Tasks
 mod Keys
 mod Places

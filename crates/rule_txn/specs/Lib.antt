@@ -3,3 +3,4 @@ pub mod Rows
 pub mod Switch
 pub mod Changes
 pub mod Fills
+pub mod Stages

@@ -15,7 +15,11 @@ fn size_of(bits: u32) -> u32
     1 << bits
 }
 
-fn fill_one<R: RegFile>(regs: &mut R, lease: &Option<Lease<Live>>, value: u32) -> Result<(), DeviceFault>
+fn fill_one<R: RegFile>(
+    regs: &mut R,
+    lease: &Option<Lease<Live>>,
+    value: u32,
+) -> Result<(), DeviceFault>
     requires { IsInFile (R.dims regs.old) lease.now }
     ensures cause { HasCause (R.faults regs.old) (R.faults regs.new) result }
     ensures dims { R.dims regs.new ≡ R.dims regs.old }
@@ -32,7 +36,11 @@ fn fill_one<R: RegFile>(regs: &mut R, lease: &Option<Lease<Live>>, value: u32) -
 }
 
 /// Fills the partitions of leases with a value.
-pub(crate) fn fill_all<R: RegFile>(regs: &mut R, leases: &[Option<Lease<Live>>; 4], value: u32) -> Result<(), DeviceFault>
+pub(crate) fn fill_all<R: RegFile>(
+    regs: &mut R,
+    leases: &[Option<Lease<Live>>; 4],
+    value: u32,
+) -> Result<(), DeviceFault>
     requires { AreInFile (R.dims regs.old) leases.now }
     ensures cause { HasCause (R.faults regs.old) (R.faults regs.new) result }
     ensures dims { R.dims regs.new ≡ R.dims regs.old }

@@ -2,6 +2,10 @@
 #![tactic(auto)]
 
 mod faults;
+mod fills;
+mod making;
 mod rows;
+mod seats;
+mod stage;
 
 pub use faults::{AddFault, ReleaseFault, ResizeFault, StartFail, Unknown};
