@@ -1,5 +1,5 @@
 -- The entry that is found, and the call that it makes.
-use Rattle.std.proofs.Common.{◌≡◌, ℕ, ◌+◌, ◌<◌, ◌≤◌, ◌^◌, Bool, true, false, List, [], ◌∷◌, ap, ap₂, sym, ◌∙◌, subst, arith}
+use Rattle.std.proofs.Common.{◌≡◌, ℕ, ◌+◌, ◌<◌, ◌≤◌, ◌^◌, Bool, true, false, List, [], ◌∷◌, ap, ap₂, sym, ◌∙◌, subst, arith, pow_mono, ◌*◌, ◌%◌}
 use Rattle.std.specs.Prelude.{Option, None, Some, if◌then◌else◌}
 use Rattle.std.specs.List.{find, All}
 use Rattle.std.proofs.lemmas.List.Elements.{All-head, All-tail}
@@ -50,3 +50,7 @@ call_is {inner} {entry} keys outs packet array k h addr op same is_key is_hash i
 -- it is made in the array
 pub call_within : (bits addr : ℕ) (entry : Entry) → IsEntry bits 4 48 entry → addr < entry.region.base + 2 ^ entry.region.bits → addr < 2 ^ bits
 call_within bits addr entry is below = omega (arith, below, is.inside)
+
+-- a shift within 64 bits
+pub shifted : (bits : ℕ) → bits ≤ 20 → 1 * 2 ^ bits % 2 ^ 64 ≡ 2 ^ bits
+shifted bits few = let p = pow_mono {i = bits} {j = 20} few in omega arith

@@ -5,8 +5,10 @@
 mod keys;
 mod operations;
 mod passing;
+mod standing;
 #[cfg(test)]
 mod tests;
 
 pub use keys::{Keys, compress};
 pub use passing::{Outs, pass};
+pub use standing::may_stand;

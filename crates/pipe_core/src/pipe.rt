@@ -1,5 +1,5 @@
 //! The groups of a switch, with their tables and units.
-ghost use Rattle.std.specs.Prelude.{◌≡◌, ◌≢◌, ◌<◌, ◌^◌, ◌+◌, false, length, IfOk, IfSome, IsTrue, MatchOption, Some};
+ghost use Rattle.std.specs.Prelude.{◌≡◌, ◌≢◌, ◌↔◌, ◌<◌, ◌^◌, ◌+◌, false, length, IfOk, IfSome, IsTrue, MatchOption, Some};
 ghost use Rattle.std.specs.List.{All, find, list_any};
 ghost use Rattle.key_mask.specs.Masks.{no_lengths};
 ghost use Rattle.addr_translate.specs.Geometry.{array_count};
@@ -12,7 +12,7 @@ ghost use Rattle.pipe_core.specs.Flow.{calls_over};
 
 use crate::making::{copy_tables, empty_tables, free_groups, most_entries};
 use addr_translate::Shape;
-use cmu_stage::{Outs, compress, pass};
+use cmu_stage::{Outs, compress, may_stand, pass};
 use group_keys::{GroupKeys, KeyUse};
 use hash_units::{ByteTables, HashKey};
 use key_mask::{KEY_BYTES, Mask};
@@ -95,6 +95,18 @@ impl Pipe {
         ensures { result.now ≡ self.now.groups }
     {
         &self.groups
+    }
+
+    /// Whether the entry may stand on the array: its region lies there, its units are units of the
+    /// array's group, and a carry comes from an earlier group.
+    pub fn fits(&self, array: u32, entry: &Entry) -> bool
+        requires { array < array_count self.now.geometry }
+        ensures { IsTrue result ↔ Fits self.now.geometry array entry.now }
+    {
+        let shape = &self.shape;
+        let group = shape.group_of(array);
+        let units = shape.units_of(group);
+        may_stand(entry, shape.bits_of(array), units, shape.first_of(group))
     }
 
     /// Adds an entry at the end of an array's table.

@@ -1,9 +1,8 @@
 //! The arrays on which a new task's rows go.
-ghost use Rattle.std.specs.Prelude.{◌≡◌, ◌≢◌, ◌<◌, ◌≤◌, ◌==◌, ℕ, All, List, [], ◌∷◌, ◌++◌, IfSome, None, Some, IsSome, if◌then◌else◌, length, take};
+ghost use Rattle.std.specs.Prelude.{◌≡◌, ◌<◌, ◌≤◌, ◌==◌, ℕ, All, [], ◌∷◌, ◌++◌, IfSome, None, Some, IsSome, if◌then◌else◌, length, take};
 ghost use Rattle.std.specs.List.{list_any};
 ghost use Rattle.addr_translate.specs.Geometry.{array_count, bits_of, group_number};
 ghost use Rattle.group_keys.specs.Units.{keys_for};
-ghost use Rattle.key_mask.specs.Masks.{no_lengths};
 ghost use Rattle.match_table.specs.Tables.{admits};
 ghost use Rattle.placer.specs.Sights.{bits_for};
 ghost use Rattle.placer.specs.Placement.{place_of, placed, pool_at, sight_in};

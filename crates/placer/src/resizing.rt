@@ -1,6 +1,6 @@
 //! Whether rows can move to another size on the arrays on which they stand.
-ghost use Rattle.std.specs.Prelude.{◌≡◌, ◌≢◌, ◌<◌, ◌≤◌, All, IfSome, MatchResult, None, Some, length, not, is_some};
-ghost use Rattle.std.specs.List.{AllPairs, position};
+ghost use Rattle.std.specs.Prelude.{◌≡◌, ◌≢◌, ◌<◌, ◌≤◌, All, IfSome, MatchResult, None, Some, length};
+ghost use Rattle.std.specs.List.{AllPairs};
 ghost use Rattle.partition_pool.specs.Pools.{least_bits};
 ghost use Rattle.placer.specs.Sights.{region_in};
 ghost use Rattle.placer.specs.Placement.{first_full, is_full};

@@ -11,3 +11,5 @@ mod Settled
 mod Again
 mod Uses
 mod Served
+mod Counts
+mod Bounds

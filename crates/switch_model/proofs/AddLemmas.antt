@@ -53,8 +53,8 @@ sound_uses geometry all sound =
     let each : All P (flat_map (uses_by geometry) all) =
     all_flat P (uses_by geometry) all
     (All-weaker (IsTask geometry) (λ o. All P (uses_by geometry o))
-      (λ o is. all_flat P (row_uses geometry) o.rows (All-weaker (IsRow geometry o) (λ row. All P (row_uses geometry row)) (λ row h. row_use_exists geometry o row h) o.rows is.each))
-      all sound.tasks) in
+    (λ o is. all_flat P (row_uses geometry) o.rows (All-weaker (IsRow geometry o) (λ row. All P (row_uses geometry row)) (λ row h. row_use_exists geometry o row h) o.rows is.each))
+    all sound.tasks) in
     record {
       agree = all_agree (flat_map (uses_by geometry) all) sound.units;
       exist = λ k d within. (each k d within).0;
@@ -127,7 +127,7 @@ unfolding is_no_key
 has_key task possible none =
     false≢true
     (sym (no_fault (not (allows_rows task.kind task.rows)) (bytes_eq task.key no_lengths) (not (allows task.kind task.attr)) faults.Rows faults.EmptyKey faults.Attr possible)
-      ∙ bytes_same task.key no_lengths none)
+    ∙ bytes_same task.key no_lengths none)
 
 -- a place of the task
 pub record Placing (geometry : Geometry) (all : List Outline) (task : Sketch) (bits : ℕ) (place : Place) : Type 0 where
@@ -199,10 +199,10 @@ uses_agree geometry uses key group keys are found =
     let gives : GiveIt (units_on geometry uses group) key keys = keys_give (units_on geometry uses group) key keys found in
     All-map (λ u. All (AgreeOnUnits u) uses) (new_use (units_on geometry uses group) key group) (units_in keys)
     (λ k d within.
-      let unit : ℕ = get_or (units_in keys) k d in
-      let new : GroupUse = new_use (units_on geometry uses group) key group unit in
-      All-weaker (λ v. AgreeOnUnits v new) (AgreeOnUnits new) (λ v a. agree_turned v new a) uses
-      (new_agrees geometry uses group unit key are (gives.fit k d within)))
+    let unit : ℕ = get_or (units_in keys) k d in
+    let new : GroupUse = new_use (units_on geometry uses group) key group unit in
+    All-weaker (λ v. AgreeOnUnits v new) (AgreeOnUnits new) (λ v a. agree_turned v new a) uses
+    (new_agrees geometry uses group unit key are (gives.fit k d within)))
 
 row_agrees : (geometry : Geometry) (uses : List GroupUse) (key : List ℕ) (group : ℕ) (keys : KeyUse) → AreUses geometry uses
     → keys_for (units_on geometry uses group) key ≡ Some keys
@@ -213,7 +213,7 @@ row_agrees geometry uses key group keys are found =
     let f : ℕ → GroupUse = new_use (units_on geometry uses group) key group in
     All-map (λ u. All (AgreeOnUnits u) news) f (units_in keys)
     (λ k d within. All-map (AgreeOnUnits (f (get_or (units_in keys) k d))) f (units_in keys)
-      (λ i e inside. both_agree geometry uses group (get_or (units_in keys) k d) (get_or (units_in keys) i e) key are (gives.used k d within i e inside)))
+    (λ i e inside. both_agree geometry uses group (get_or (units_in keys) k d) (get_or (units_in keys) i e) key are (gives.used k d within i e inside)))
 
 -- uses in different groups have nothing to agree on
 in_groups : (geometry : Geometry) (uses : List GroupUse) (key : List ℕ) (one two : ℕ) (keys others : KeyUse) → one ≢ two
@@ -221,7 +221,7 @@ in_groups : (geometry : Geometry) (uses : List GroupUse) (key : List ℕ) (one t
 in_groups geometry uses key one two keys others ne =
     All-map (λ u. All (AgreeOnUnits u) (uses_for geometry uses key two others)) (new_use (units_on geometry uses one) key one) (units_in keys)
     (λ k d within. All-map (AgreeOnUnits (new_use (units_on geometry uses one) key one (get_or (units_in keys) k d))) (new_use (units_on geometry uses two) key two) (units_in others)
-      (λ i e inside. record { same = λ on. absurd (ne on); other = λ on. absurd (ne on) }))
+    (λ i e inside. record { same = λ on. absurd (ne on); other = λ on. absurd (ne on) }))
 
 rows_agree : (geometry : Geometry) (uses : List GroupUse) (key : List ℕ) (one two : ℕ) (keys others : KeyUse) → AreUses geometry uses
     → keys_for (units_on geometry uses one) key ≡ Some keys → keys_for (units_on geometry uses two) key ≡ Some others
@@ -229,6 +229,7 @@ rows_agree : (geometry : Geometry) (uses : List GroupUse) (key : List ℕ) (one 
 rows_agree geometry uses key one two keys others are found found_too = ⊎_elim here there (cases_eq one two) where
   there : one ≢ two → Across AgreeOnUnits (uses_for geometry uses key one keys) (uses_for geometry uses key two others)
   there ne = in_groups geometry uses key one two keys others ne
+
   here : one ≡ two → Across AgreeOnUnits (uses_for geometry uses key one keys) (uses_for geometry uses key two others)
   here same =
       let both : Some keys ≡ Some others = sym found ∙ ap (λ g. keys_for (units_on geometry uses g) key) same ∙ found_too in
@@ -316,11 +317,11 @@ news_agree geometry all task bits found are each =
     all_flat (λ u. All (AgreeOnUnits u) news) (row_uses geometry) rows
     (All-map (λ r. All (λ u. All (AgreeOnUnits u) news) (row_uses geometry r)) row found
     (λ k d within i e inside.
-      let p : Place = get_or found k d in
-      let u : GroupUse = get_or (row_uses geometry (row p)) i e in
-      all_flat (AgreeOnUnits u) (row_uses geometry) rows
-      (All-map (λ r. All (AgreeOnUnits u) (row_uses geometry r)) row found
-      (λ j f there. two_rows geometry all task bits p (get_or found j f) are (each k d within) (each j f there) i e inside))))
+    let p : Place = get_or found k d in
+    let u : GroupUse = get_or (row_uses geometry (row p)) i e in
+    all_flat (AgreeOnUnits u) (row_uses geometry) rows
+    (All-map (λ r. All (AgreeOnUnits u) (row_uses geometry r)) row found
+    (λ j f there. two_rows geometry all task bits p (get_or found j f) are (each k d within) (each j f there) i e inside))))
 
 news_agree_with : (geometry : Geometry) (all : List Outline) (task : Sketch) (bits : ℕ) (found : List Place) → AreUses geometry (all_uses geometry all)
     → All (Placing geometry all task bits) found
@@ -331,10 +332,27 @@ news_agree_with geometry all task bits found are each =
     all_flat (λ u. All (AgreeOnUnits u) uses) (row_uses geometry) (map row found)
     (All-map (λ r. All (λ u. All (AgreeOnUnits u) uses) (row_uses geometry r)) row found
     (λ k d within.
-      let p : Place = get_or found k d in
-      let h : Placing geometry all task bits p = each k d within in
-      subst (λ (us : List GroupUse). Across AgreeOnUnits us uses) (sym (row_uses_are geometry all task p h.exists))
-      (uses_agree geometry uses task.key (group_number geometry p.array) p.keys are h.keys)))
+    let p : Place = get_or found k d in
+    let h : Placing geometry all task bits p = each k d within in
+    subst (λ (us : List GroupUse). Across AgreeOnUnits us uses) (sym (row_uses_are geometry all task p h.exists))
+    (uses_agree geometry uses task.key (group_number geometry p.array) p.keys are h.keys)))
+
+-- its regions share no register with what is held
+pub news_apart : (geometry : Geometry) (all : List Outline) (task : Sketch) (bits : ℕ) (found : List Place) → All (Placing geometry all task bits) found
+    → Across ShareNone (map live_holding (map (row_at geometry (sight_of geometry all) task) found)) (all_held all)
+news_apart geometry all task bits found each =
+    let row : Place → Row = row_at geometry (sight_of geometry all) task in
+    All-map (λ h. All (ShareNone h) (all_held all)) live_holding (map row found)
+    (All-map (λ r. All (ShareNone (live_holding r)) (all_held all)) row found
+    (λ k d within.
+    let place : Place = get_or found k d in
+    let p : Placing geometry all task bits place = each k d within in
+    free_of_all (all_held all) place.array place.region (sym (ap (λ ts. is_free ts place.region) (taken_seen geometry all place.array p.exists)) ∙ p.free)))
+
+pub all_placed : (geometry : Geometry) (all : List Outline) (task : Sketch) (bits : ℕ) (found : List Place) → IsGeometry geometry
+    → ArePlaces geometry (sight_of geometry all) task bits found → All (Placing geometry all task bits) found
+all_placed geometry all task bits found good places k d within =
+    placing geometry all task bits (get_or found k d) good (places.exist k d within) (places.stand k d within)
 
 pub sound_pushed : (geometry : Geometry) (all : List Outline) (task : Sketch) (bits : ℕ) (found : List Place) → IsGeometry geometry → Sound geometry all
     → first_fault task ≡ None → bits_for geometry task.kind task.size ≡ Some bits → ArePlaces geometry (sight_of geometry all) task bits found
@@ -348,7 +366,7 @@ sound_pushed geometry all task bits found good sound possible size_ places names
     let are : AreUses geometry uses = sound_uses geometry all sound in
     let size : IsSize geometry task.kind task.size bits = size_is geometry task.kind task.size bits size_ in
     let each : All (Placing geometry all task bits) found =
-    (λ k d within. placing geometry all task bits (get_or found k d) good (places.exist k d within) (places.stand k d within)) in
+    all_placed geometry all task bits found good places in
     let different : AllPairs OnDifferent rows =
     pairs_map OnDifferent (row_at geometry sight task) found
     (pairs_weaker (λ (one two : Place). one.array < two.array) (λ (one two : Place). one.array ≢ two.array) (λ one two less same. omega arith) found places.rise) in
@@ -363,17 +381,12 @@ sound_pushed geometry all task bits found good sound possible size_ places names
                 (λ k d within. new_row geometry all task bits o (get_or found k d) are possible size refl refl (each k d within));
             rising = pairs_map (RisesIn geometry task.kind) (row_at geometry sight task) found
                 (λ i j d before within. rises_in geometry task.kind (row_at geometry sight task (get_or found i d)) (row_at geometry sight task (get_or found j d))
-                  (places.rise i j d before within) (λ chained. places.groups chained i j d before within));
+                (places.rise i j d before within) (λ chained. places.groups chained i j d before within));
           }) (All-nil (IsTask geometry)));
       regions = subst (AllPairs ShareNone) (sym (held_pushed all o ∙ ap (λ hs. all_held all ++ hs) (held_new geometry sight task found)))
           (pairs_append ShareNone (all_held all) (map live_holding rows) sound.regions (different_regions rows different)
           (across_turned ShareNone ShareNone share_turned (map live_holding rows) (all_held all)
-          (All-map (λ h. All (ShareNone h) (all_held all)) live_holding rows
-          (All-map (λ row. All (ShareNone (live_holding row)) (all_held all)) (row_at geometry sight task) found
-          (λ k d within.
-            let place : Place = get_or found k d in
-            let p : Placing geometry all task bits place = each k d within in
-            free_of_all (all_held all) place.array place.region (sym (ap (λ ts. is_free ts place.region) (taken_seen geometry all place.array p.exists)) ∙ p.free))))));
+          (news_apart geometry all task bits found each)));
       filters = subst (AllPairs MatchNone) (sym (spots_pushed all o))
           (pairs_append MatchNone (all_spots all) (spots_by o) sound.filters (different_spots task rows different)
           (across_turned (λ s t. MatchNone t s) MatchNone (λ s t m. m) (spots_by o) (all_spots all)
@@ -382,9 +395,9 @@ sound_pushed geometry all task bits found good sound possible size_ places names
           (All-map (λ (k : Key). All (λ t. KeysMatchNone (key_of t) k) (all_spots all)) (row_key task) rows
           (All-map (λ row. All (λ t. KeysMatchNone (key_of t) (row_key task row)) (all_spots all)) (row_at geometry sight task) found
           (λ k d within.
-            let place : Place = get_or found k d in
-            let p : Placing geometry all task bits place = each k d within in
-            admitted (all_spots all) place.array task.filter (sym (ap (λ rs. admits rs task.filter) (rules_seen geometry all place.array p.exists)) ∙ p.admits))))))));
+          let place : Place = get_or found k d in
+          let p : Placing geometry all task bits place = each k d within in
+          admitted (all_spots all) place.array task.filter (sym (ap (λ rs. admits rs task.filter) (rules_seen geometry all place.array p.exists)) ∙ p.admits))))))));
       units = subst (AllPairs AgreeOnUnits) (sym (uses_pushed geometry all o))
           (pairs_append AgreeOnUnits uses (uses_by geometry o) sound.units
           (across_pairs AgreeOnUnits (uses_by geometry o) (news_agree geometry all task bits found are each))

@@ -78,7 +78,7 @@ no_two geometry rs packet array sound =
     filter_within (takes_on packet array) is_live (λ s e. (takes packet array s e).live) (all_stands rs) in
     pairs_known (Takes packet array) R (λ (s t : Stand). ⊥)
     (λ s t one two differ.
-      false≢true (sym (passes_one s.task.filter t.task.filter packet.vec (differ (one.on ∙ sym two.on)) one.matches) ∙ two.matches))
+    false≢true (sym (passes_one s.task.filter t.task.filter packet.vec (differ (one.on ∙ sym two.on)) one.matches) ∙ two.matches))
     takers
     (All-weaker (λ s. takes_on packet array s ≡ true) (Takes packet array) (λ s e. takes packet array s e) takers (filter_passes (takes_on packet array) (all_stands rs)))
     (subst (AllPairs R) same (AllPairs-filter R (takes_on packet array) (filter is_live (all_stands rs)) (stands_differ geometry rs sound)))
@@ -112,16 +112,16 @@ one_call_an_array geometry hash_key rs packet sound =
     let arrays : List ℕ = range_with_len 0 (array_count geometry) in
     pairs_flat R calls arrays
     (λ k d within.
-      let array : ℕ = get_or arrays k d in
-      pairs_map R (call_of hash_key packet) (filter (takes_on packet array) stands)
-      (pairs_weaker (λ (s t : Stand). ⊥) (λ s t. R (call_of hash_key packet s) (call_of hash_key packet t)) (λ s t never. absurd never)
-      (filter (takes_on packet array) stands) (no_two geometry rs packet array sound)))
+    let array : ℕ = get_or arrays k d in
+    pairs_map R (call_of hash_key packet) (filter (takes_on packet array) stands)
+    (pairs_weaker (λ (s t : Stand). ⊥) (λ s t. R (call_of hash_key packet s) (call_of hash_key packet t)) (λ s t never. absurd never)
+    (filter (takes_on packet array) stands) (no_two geometry rs packet array sound)))
     (pairs_weaker (λ (a b : ℕ). a < b) (λ a b. Across R (calls a) (calls b))
-      (λ a b less i d within j e inside same.
-        let one = calls_there hash_key packet stands a i d within in
-        let two = calls_there hash_key packet stands b j e inside in
-        omega arith)
-      arrays (range_rises 0 (array_count geometry)))
+    (λ a b less i d within j e inside same.
+    let one = calls_there hash_key packet stands a i d within in
+    let two = calls_there hash_key packet stands b j e inside in
+    omega arith)
+    arrays (range_rises 0 (array_count geometry)))
 
 -- ---- registers that calls do not reach
 
@@ -164,26 +164,28 @@ array_hit f there contents array addr from (suc n) low high =
     ∙ ⊎_elim here (later (array_hit f there (all_made contents (f from)) array addr (from + 1) n)) (cases_eq from array) where
       rest : List Call
       rest = flat_map f (range_with_len (from + 1) n)
+
       here : from ≡ array → all_made (all_made contents (f from)) rest array addr ≡ all_made contents (f array) array addr
       here same =
           all_missed (all_made contents (f from)) rest array addr
           (all_flat (Misses array addr) f (range_with_len (from + 1) n)
-            (All-weaker (λ a. from + 1 ≤ a) (λ a. All (Misses array addr) (f a))
-              (λ a le. All-weaker (λ (call : Call). call.array ≡ a) (Misses array addr) (λ call on is. absurd (omega arith)) (f a) (there a))
-              (range_with_len (from + 1) n) (range_above (from + 1) n)))
+          (All-weaker (λ a. from + 1 ≤ a) (λ a. All (Misses array addr) (f a))
+          (λ a le. All-weaker (λ (call : Call). call.array ≡ a) (Misses array addr) (λ call on is. absurd (omega arith)) (f a) (there a))
+          (range_with_len (from + 1) n) (range_above (from + 1) n)))
           ∙ ap (λ a. all_made contents (f a) array addr) same
+
       later : (from + 1 ≤ array → array < from + 1 + n
           → all_made (all_made contents (f from)) rest array addr ≡ all_made (all_made contents (f from)) (f array) array addr)
           → from ≢ array → all_made (all_made contents (f from)) rest array addr ≡ all_made contents (f array) array addr
       later more ne =
           more (omega arith) (omega arith)
           ∙ all_alike (all_made contents (f from)) contents (f array) array addr
-            (all_missed contents (f from) array addr (All-weaker (λ (call : Call). call.array ≡ from) (Misses array addr) (λ call on is. absurd (ne (sym on ∙ is))) (f from) (there from)))
+          (all_missed contents (f from) array addr (All-weaker (λ (call : Call). call.array ≡ from) (Misses array addr) (λ call on is. absurd (ne (sym on ∙ is))) (f from) (there from)))
 
 -- ---- the registers of one row
 
 -- an operation on a region apart from another misses it
-apart_misses : (one two : Block) (x j : ℕ) → are_apart one two ≡ true → x < 2 ^ one.bits → j < 2 ^ two.bits → one.base + x ≢ two.base + j
+pub apart_misses : (one two : Block) (x j : ℕ) → are_apart one two ≡ true → x < 2 ^ one.bits → j < 2 ^ two.bits → one.base + x ≢ two.base + j
 apart_misses one two x j apart first second = by (nat_le (one.base + 2 ^ one.bits) two.base) (nat_le (two.base + 2 ^ two.bits) one.base) refl refl apart where
   by : (a b : Bool) → nat_le (one.base + 2 ^ one.bits) two.base ≡ a → nat_le (two.base + 2 ^ two.bits) one.base ≡ b → (a || b) ≡ true
       → one.base + x ≢ two.base + j
@@ -230,12 +232,14 @@ own_call hash_key packet front back s contents j within before behind =
     ap (λ calls. all_made contents calls s.array addr) (ap (map f) (filter-append p front (s ∷ back)) ∙ map_append f (filter p front) (filter p (s ∷ back)))
     ∙ ap (λ (c : Contents). c s.array addr) (fold-append made contents (map f (filter p front)) (map f (filter p (s ∷ back))))
     ∙ all_alike (all_made contents (map f (filter p front))) contents (map f (filter p (s ∷ back))) s.array addr
-      (all_missed contents (map f (filter p front)) s.array addr (others_miss hash_key packet s front s.array j within before))
+    (all_missed contents (map f (filter p front)) s.array addr (others_miss hash_key packet s front s.array j within before))
     ∙ by (takes_on packet s.array s) where
       later : List Call
       later = map (call_of hash_key packet) (filter (takes_on packet s.array) back)
+
       misses : All (Misses s.array (s.region.base + j)) later
       misses = others_miss hash_key packet s back s.array j within behind
+
       by : (b : Bool)
           → all_made contents (map (call_of hash_key packet) (cond b (s ∷ filter (takes_on packet s.array) back) (filter (takes_on packet s.array) back))) s.array (s.region.base + j)
           ≡ all_made contents (map (call_of hash_key packet) (cond b (s ∷ []) [])) s.array (s.region.base + j)
@@ -253,16 +257,18 @@ one_register : (hash_key : List ℕ) (packet : Packet) (s : Stand) (contents : C
 one_register hash_key packet s contents j few row within holds = ⊎_elim here there (cases_eq j place) where
   place : ℕ
   place = index_at hash_key s.task s.region.bits s.row packet
+
   here : j ≡ place → made contents (call_of hash_key packet s) s.array (s.region.base + j)
       ≡ slice_index (row_of (cells_of hash_key s.task s.region.bits (s.packets ++ packet ∷ [])) s.row) j
   here same =
       let addr : s.region.base + place ≡ s.region.base + j = omega arith in
       ap₂ (λ a b. cond (a && b) (new_register (call_of hash_key packet s).op (contents s.array (s.region.base + j))) (contents s.array (s.region.base + j)))
-        (eq-eqb s.array s.array refl) (eq-eqb (s.region.base + place) (s.region.base + j) addr)
+      (eq-eqb s.array s.array refl) (eq-eqb (s.region.base + place) (s.region.base + j) addr)
       ∙ ap (new_register (call_of hash_key packet s).op) (holds j within)
       ∙ ap (λ k. new_register (call_of hash_key packet s).op (slice_index (row_of (cells_of hash_key s.task s.region.bits s.packets) s.row) k)) same
       ∙ sym (cell_here hash_key s.task s.region.bits s.packets packet s.row few row)
       ∙ ap (λ k. slice_index (row_of (cells_of hash_key s.task s.region.bits (s.packets ++ packet ∷ [])) s.row) k) (sym same)
+
   there : j ≢ place → made contents (call_of hash_key packet s) s.array (s.region.base + j)
       ≡ slice_index (row_of (cells_of hash_key s.task s.region.bits (s.packets ++ packet ∷ [])) s.row) j
   there other =
@@ -278,6 +284,7 @@ row_keeps : (geometry : Geometry) (hash_key : List ℕ) (packet : Packet) (front
 row_keeps geometry hash_key packet front back s contents is holds before behind = by (s.live && passes s.task.filter packet.vec) refl where
   new : Contents
   new = all_made contents (flat_map (calls_on hash_key packet (front ++ s ∷ back)) (range_with_len 0 (array_count geometry)))
+
   value : (j : ℕ) → j < 2 ^ s.region.bits → new s.array (s.region.base + j)
       ≡ all_made contents (map (call_of hash_key packet) (cond (s.live && passes s.task.filter packet.vec) (s ∷ []) [])) s.array (s.region.base + j)
   value j within =
@@ -285,8 +292,10 @@ row_keeps geometry hash_key packet front back s contents is holds before behind 
       (array_count geometry) (omega arith) (omega (arith, is.array))
       ∙ own_call hash_key packet front back s contents j within before behind
       ∙ ap (λ b. all_made contents (map (call_of hash_key packet) (cond b (s ∷ []) [])) s.array (s.region.base + j)) (takes_here packet s)
+
   few : s.region.bits ≤ 32
   few = omega (arith, is.region.aligned.small)
+
   by : (b : Bool) → (s.live && passes s.task.filter packet.vec) ≡ b
       → HoldsCells hash_key new (cond b (record s { packets = s.packets ++ packet ∷ [] }) s)
   by true e j within =
@@ -309,14 +318,14 @@ packet_keeps_layout geometry hash_key rs packet contents sound layout =
     subst (All (HoldsCells hash_key new)) (sym (stands_joined packet rs))
     (All-map (HoldsCells hash_key new) (joined_stand packet) stands
     (all_split (λ s. HoldsCells hash_key new (joined_stand packet s)) stands (λ front s back whole.
-      let a : Around R front back s = around R front back s (subst (AllPairs R) whole (stands_apart geometry rs sound)) in
-      let few : All (λ (s : Stand). s.region.bits ≤ 32) (front ++ s ∷ back) = subst (All (λ (s : Stand). s.region.bits ≤ 32)) whole small in
-      subst (λ (all : List Stand).
-      HoldsCells hash_key (all_made contents (flat_map (calls_on hash_key packet all) (range_with_len 0 (array_count geometry)))) (joined_stand packet s)) (sym whole)
-      (row_keeps geometry hash_key packet front back s contents
-      (all_here (IsStand geometry) front back s (subst (All (IsStand geometry)) whole (stands_are geometry rs sound.tasks)))
-      (all_here (HoldsCells hash_key contents) front back s (subst (All (HoldsCells hash_key contents)) whole layout))
-      (all_and (λ t. R t s) (λ (t : Stand). t.region.bits ≤ 32) front a.before (all_front (λ (t : Stand). t.region.bits ≤ 32) front (s ∷ back) few))
-      (all_and (λ t. R t s) (λ (t : Stand). t.region.bits ≤ 32) back
-        (All-weaker (R s) (λ t. R t s) (λ t h. share_turned (holding_of s) (holding_of t) h) back a.after)
-        (All-tail (λ (t : Stand). t.region.bits ≤ 32) s back (all_back (λ (t : Stand). t.region.bits ≤ 32) front (s ∷ back) few)))))))
+    let a : Around R front back s = around R front back s (subst (AllPairs R) whole (stands_apart geometry rs sound)) in
+    let few : All (λ (s : Stand). s.region.bits ≤ 32) (front ++ s ∷ back) = subst (All (λ (s : Stand). s.region.bits ≤ 32)) whole small in
+    subst (λ (all : List Stand).
+    HoldsCells hash_key (all_made contents (flat_map (calls_on hash_key packet all) (range_with_len 0 (array_count geometry)))) (joined_stand packet s)) (sym whole)
+    (row_keeps geometry hash_key packet front back s contents
+    (all_here (IsStand geometry) front back s (subst (All (IsStand geometry)) whole (stands_are geometry rs sound.tasks)))
+    (all_here (HoldsCells hash_key contents) front back s (subst (All (HoldsCells hash_key contents)) whole layout))
+    (all_and (λ t. R t s) (λ (t : Stand). t.region.bits ≤ 32) front a.before (all_front (λ (t : Stand). t.region.bits ≤ 32) front (s ∷ back) few))
+    (all_and (λ t. R t s) (λ (t : Stand). t.region.bits ≤ 32) back
+    (All-weaker (R s) (λ t. R t s) (λ t h. share_turned (holding_of s) (holding_of t) h) back a.after)
+    (All-tail (λ (t : Stand). t.region.bits ≤ 32) s back (all_back (λ (t : Stand). t.region.bits ≤ 32) front (s ∷ back) few)))))))

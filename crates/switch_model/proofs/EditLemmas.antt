@@ -93,7 +93,7 @@ same_keys front back o p same =
     ap (map key_of) (spots_between front back p)
     ∙ map_append key_of (all_spots front) (spots_by p ++ all_spots back)
     ∙ ap (λ ks. map key_of (all_spots front) ++ ks)
-      (map_append key_of (spots_by p) (all_spots back) ∙ ap (λ ks. ks ++ map key_of (all_spots back)) same ∙ sym (map_append key_of (spots_by o) (all_spots back)))
+    (map_append key_of (spots_by p) (all_spots back) ∙ ap (λ ks. ks ++ map key_of (all_spots back)) same ∙ sym (map_append key_of (spots_by o) (all_spots back)))
     ∙ sym (map_append key_of (all_spots front) (spots_by o ++ all_spots back))
     ∙ ap (map key_of) (sym (spots_between front back o))
 
@@ -170,7 +170,7 @@ task_thawed geometry o is = record {
       (All-weaker (IsRow geometry o) (λ row. IsRow geometry (thawed_outline o) (thawed_row row)) (λ row h. thawed_is geometry o row h) o.rows is.each);
   rising = pairs_map (RisesIn geometry o.task.kind) thawed_row o.rows
       (pairs_weaker (RisesIn geometry o.task.kind) (λ one two. RisesIn geometry o.task.kind (thawed_row one) (thawed_row two))
-        (λ one two r. rises_same geometry o.task.kind one two (thawed_row one) (thawed_row two) refl refl r) o.rows is.rising);
+      (λ one two r. rises_same geometry o.task.kind one two (thawed_row one) (thawed_row two) refl refl r) o.rows is.rising);
 }
 
 pub sound_thawed : (geometry : Geometry) (front back : List Outline) (o : Outline) → Sound geometry (front ++ o ∷ back)
@@ -269,6 +269,21 @@ moved_is geometry all bits o p row is m size key frozen = subst (IsRow geometry 
   key = subst (GiveKey row.masks) (sym key) is.key;
 })
 
+pub all_moving : (geometry : Geometry) (all : List Outline) (bits : ℕ) (o : Outline) (rows : List Row) → IsGeometry geometry → All (IsRow geometry o) rows
+    → All (HasRegion geometry (sight_of geometry all) bits) rows → All (Moving geometry all bits) rows
+all_moving geometry all bits o rows good each has k d within =
+    moving geometry all bits (get_or rows k d) good (let h : IsRow geometry o (get_or rows k d) = each k d within in h.array) (has k d within)
+
+-- the new regions share no register with what is held
+pub moved_apart : (geometry : Geometry) (all : List Outline) (bits : ℕ) (rows : List Row) → All (Moving geometry all bits) rows
+    → Across ShareNone (map live_holding (map (moved_by geometry (sight_of geometry all) bits) rows)) (all_held all)
+moved_apart geometry all bits rows each =
+    let f : Row → Row = moved_by geometry (sight_of geometry all) bits in
+    All-map (λ h. All (ShareNone h) (all_held all)) live_holding (map f rows)
+    (All-map (λ row. All (ShareNone (live_holding row)) (all_held all)) f rows
+    (All-weaker (Moving geometry all bits) (λ row. All (ShareNone (live_holding (f row))) (all_held all))
+    (λ row m. subst (λ (r : Row). All (ShareNone (live_holding r)) (all_held all)) (sym m.is) m.apart) rows each))
+
 pub sound_moved : (geometry : Geometry) (front back : List Outline) (o : Outline) (bits size : ℕ) (news : List Row) → IsGeometry geometry
     → Sound geometry (front ++ o ∷ back) → is_some o.frozen ≡ false → bits_for geometry o.task.kind size ≡ Some bits
     → moved_rows geometry (sight_of geometry (front ++ o ∷ back)) bits 0 o.rows ≡ Ok news
@@ -283,7 +298,7 @@ sound_moved geometry front back o bits size news good sound free fits moves =
     let is : IsTask geometry o = all_here (IsTask geometry) front back o sound.tasks in
     let size_ : IsSize geometry o.task.kind size bits = size_is geometry o.task.kind size bits fits in
     let each : All (Moving geometry all bits) o.rows =
-    (λ k d within. moving geometry all bits (get_or o.rows k d) good (let h : IsRow geometry o (get_or o.rows k d) = is.each k d within in h.array) (are.each k d within)) in
+    all_moving geometry all bits o o.rows good is.each are.each in
     let live : List Holding = map live_holding o.rows in
     let fresh : List Holding = map live_holding (map f o.rows) in
     let none : filter_map frozen_holding o.rows ≡ [] =
@@ -295,11 +310,7 @@ sound_moved geometry front back o bits size news good sound free fits moves =
     let different : AllPairs OnDifferent (map f o.rows) =
     pairs_map OnDifferent f o.rows (pairs_weaker (RisesIn geometry o.task.kind) (λ one two. OnDifferent (f one) (f two)) (λ one two r. rises_differ geometry o.task.kind one two r) o.rows is.rising) in
     let apart : Across ShareNone fresh (all_held front ++ (live ++ all_held back)) =
-    subst (Across ShareNone fresh) held_is
-    (All-map (λ h. All (ShareNone h) (all_held all)) live_holding (map f o.rows)
-    (All-map (λ row. All (ShareNone (live_holding row)) (all_held all)) f o.rows
-    (All-weaker (Moving geometry all bits) (λ row. All (ShareNone (live_holding (f row))) (all_held all))
-    (λ row m. subst (λ (r : Row). All (ShareNone (live_holding r)) (all_held all)) (sym m.is) m.apart) o.rows each))) in
+    subst (Across ShareNone fresh) held_is (moved_apart geometry all bits o.rows each) in
     subst (λ (rows : List Row). Sound geometry (front ++ moved_outline task rows o ∷ back)) (sym are.are)
     (sound_edited geometry front back o p sound refl
     (record {
@@ -310,7 +321,7 @@ sound_moved geometry front back o bits size news good sound free fits moves =
           (λ k d within. moved_is geometry all bits o p (get_or o.rows k d) (is.each k d within) (each k d within) size_.power refl refl);
       rising = pairs_map (RisesIn geometry o.task.kind) f o.rows
           (pairs_weaker (RisesIn geometry o.task.kind) (λ one two. RisesIn geometry o.task.kind (f one) (f two))
-            (λ one two r. rises_same geometry o.task.kind one two (f one) (f two) refl refl r) o.rows is.rising);
+          (λ one two r. rises_same geometry o.task.kind one two (f one) (f two) refl refl r) o.rows is.rising);
     })
     (subst (AllPairs ShareNone)
     (ap (λ hs. all_held front ++ hs) (sym (append_assoc fresh live (all_held back))) ∙ ap (λ hs. all_held front ++ ((fresh ++ hs) ++ all_held back)) (sym (moved_frozen geometry sight bits o.rows)))

@@ -182,12 +182,16 @@ edited_part name other rs front here back f g at parts names =
     ∙ ap (λ xs. cond (bytes_eq other name) (option_map g (part_of name xs)) (part_of name xs)) (sym at.is) where
       before : List Record
       before = at.before
+
       one : Record
       one = at.one
+
       after : List Record
       after = at.after
+
       its_name : one.part.task.name ≡ other
       its_name = same_bytes one.part.task.name other at.called
+
       by : (b : Bool) → bytes_eq other name ≡ b
           → part_of name (before ++ f one ∷ after) ≡ cond b (option_map g (part_of name (before ++ one ∷ after))) (part_of name (before ++ one ∷ after))
       by true e =
@@ -215,16 +219,22 @@ dropped_part name other rs front here back names at =
     ∙ ap (λ xs. cond (bytes_eq other name) None (part_of name xs)) (sym at.is) where
       before : List Record
       before = at.before
+
       one : Record
       one = at.one
+
       after : List Record
       after = at.after
+
       its_name : one.part.task.name ≡ other
       its_name = same_bytes one.part.task.name other at.called
+
       apart : AllPairs (λ (x y : Record). x.part.task.name ≢ y.part.task.name) (before ++ one ∷ after)
       apart = subst (AllPairs (λ (x y : Record). x.part.task.name ≢ y.part.task.name)) at.is (pairs_mapped HaveOwnNames outline rs names)
+
       later : All (λ (y : Record). one.part.task.name ≢ y.part.task.name) after
       later = let a : Around (λ (x y : Record). x.part.task.name ≢ y.part.task.name) before after one = around (λ (x y : Record). x.part.task.name ≢ y.part.task.name) before after one apart in a.after
+
       by : (b : Bool) → bytes_eq other name ≡ b
           → part_of name (before ++ after) ≡ cond b None (part_of name (before ++ one ∷ after))
       by true e =
@@ -232,7 +242,7 @@ dropped_part name other rs front here back names at =
           let none : All (λ r. has_name name r ≡ false) before = subst (λ (n : List ℕ). All (λ r. has_name n r ≡ false) before) same at.none in
           past_others name before after none
           ∙ not_there name after (All-weaker (λ (y : Record). one.part.task.name ≢ y.part.task.name) (λ r. has_name name r ≡ false)
-            (λ r ne. not_same r.part.task.name name (λ is. ne (its_name ∙ same ∙ sym is))) after later)
+          (λ r ne. not_same r.part.task.name name (λ is. ne (its_name ∙ same ∙ sym is))) after later)
       by false e =
           same_front name before after (one ∷ after) (sym (first_other name one after (ap (λ n. bytes_eq n name) its_name ∙ e)))
 
@@ -262,9 +272,9 @@ changed_part geometry name rs (Resize other size) edit h names =
     let task : Sketch = record is.here.task { size = size } in
     ap (λ (e : Edit). part_of name (edited_records e rs)) is.is
     ∙ edited_part name other rs is.front is.here is.back (λ (r : Record). record { part = resized_part task r.part; rows = is.rows })
-      (λ (p : Part). resized_part (record p.task { size = size }) p) at
-      (ap (λ (o : Outline). resized_part (record o.task { size = size }) at.one.part) (sym at.heres))
-      (ap (λ (o : Outline). o.task.name) (sym at.heres))
+    (λ (p : Part). resized_part (record p.task { size = size }) p) at
+    (ap (λ (o : Outline). resized_part (record o.task { size = size }) at.one.part) (sym at.heres))
+    (ap (λ (o : Outline). o.task.name) (sym at.heres))
 changed_part geometry name rs (Remove other) edit h names =
     let is : EditsAt other (outlines rs) Drop edit = remove_is geometry (outlines rs) other edit h in
     let at : RecordAt other rs is.front is.here is.back = record_at other rs is.front is.here is.back is.whole is.called is.none in

@@ -98,6 +98,7 @@ add_is geometry all task edit h =
       placed_by new bits e (Ok found) f is =
           let same : Push task (map (row_at geometry (sight_of geometry all) task) found) ≡ edit = cc in
           record { bits = bits; found = found; new = none_passes (is_called task.name) all new; size = e; places = f; is = sym same }
+
       by : is_some (position (is_called task.name) all) ≡ false → (bits : Option ℕ) → bits_for geometry task.kind task.size ≡ bits
           → added geometry (sight_of geometry all) task bits ≡ Ok edit → AddIs geometry all task edit
       by new None e is = absurd (cc)
@@ -121,8 +122,20 @@ resize_is geometry all name size edit h =
       rows_by front here back whole called none free bits e (Ok rows) f is =
           let same : Move (length front) (record here.task { size = size }) rows ≡ edit = cc in
           record {
-            front = front; here = here; back = back; rows = rows; bits = bits; whole = whole; called = called; none = none;
-            free = free; fits = e; moves = f; is = sym same }
+            front = front;
+            here = here;
+            back = back;
+            rows = rows;
+            bits = bits;
+            whole = whole;
+            called = called;
+            none = none;
+            free = free;
+            fits = e;
+            moves = f;
+            is = sym same;
+          }
+
       by : (front : List Outline) (here : Outline) (back : List Outline) → all ≡ front ++ here ∷ back → is_called name here ≡ true
           → All (λ o. is_called name o ≡ false) front → is_some here.frozen ≡ false → (bits : Option ℕ) → bits_for geometry here.task.kind size ≡ bits
           → resized geometry (sight_of geometry all) (length front) size here bits ≡ Ok edit → ResizeIs geometry all name size edit

@@ -1,11 +1,15 @@
 pub mod AddLemmas
+pub mod AnySizeLemmas
 pub mod CallLemmas
+pub mod ChainLemmas
 pub mod EditLemmas
 pub mod IsolationLemmas
 pub mod JudgedLemmas
+pub mod LayoutLemmas
 pub mod ListLemmas
 pub mod RestorationLemmas
 pub mod SightLemmas
+pub mod SoundLemmas
 pub mod StandLemmas
 pub mod UnitLemmas
 pub mod Values

@@ -215,6 +215,7 @@ mapped_position {X} {Y} test f xs =
       same : (xs : List X) → position_or_len test (map f xs) ≡ position_or_len (λ x. test (f x)) xs
       same [] = refl
       same (x ∷ xs) = ap (λ (n : ℕ). cond (not (test (f x))) (1 + n) 0) (same xs)
+
       long : (xs : List X) → length (map f xs) ≡ length xs
       long [] = refl
       long (x ∷ xs) = ap suc (long xs)
@@ -304,7 +305,7 @@ pub position_here : {X : Type 0} (test : X → Bool) (front back : List X) (x : 
 position_here {X} test front back x none here =
     ap (λ (n : ℕ). cond (nat_lt n (length (front ++ x ∷ back))) (Some n) None) (first front none)
     ∙ ap (λ (b : Bool). cond b (Some (length front)) None)
-      (lt-ltb (length front) (length (front ++ x ∷ back)) (let long : length (front ++ x ∷ back) ≡ length front + length (x ∷ back) = length-append front (x ∷ back) in omega arith)) where
+    (lt-ltb (length front) (length (front ++ x ∷ back)) (let long : length (front ++ x ∷ back) ≡ length front + length (x ∷ back) = length-append front (x ∷ back) in omega arith)) where
       first : (front : List X) → All (λ y. test y ≡ false) front → position_or_len test (front ++ x ∷ back) ≡ length front
       first [] none = ap (λ (b : Bool). cond (not b) (1 + position_or_len test back) 0) here
       first (y ∷ front) none =

@@ -51,6 +51,7 @@ on_array place it p array [] passes = All-nil (λ h. place h ≡ array → p (it
 on_array {H} {X} place it p array (h ∷ hs) passes = by (on_array place it p array hs) (place h == array) (p (it h)) refl refl passes where
   rest : List X
   rest = map it (filter (λ h. place h == array) hs)
+
   by : (list_all p rest ≡ true → All (λ h. place h ≡ array → p (it h) ≡ true) hs) → (a b : Bool) → (place h == array) ≡ a → p (it h) ≡ b
       → list_all p (map it (cond a (h ∷ filter (λ h. place h == array) hs) (filter (λ h. place h == array) hs))) ≡ true
       → All (λ h. place h ≡ array → p (it h) ≡ true) (h ∷ hs)
@@ -95,24 +96,30 @@ pub masks_known : (uses : List GroupUse) (group unit : ℕ) → Across AgreeOnUn
 masks_known uses group unit agree = first uses (λ i d within j e inside. (agree i d within j e inside).same) where
   Same : GroupUse → GroupUse → Type 0
   Same one two = one.group ≡ two.group → one.unit ≡ two.unit → one.mask ≡ two.mask
+
   first : (uses : List GroupUse) → Across Same uses uses
       → All (λ (v : GroupUse). v.group ≡ group → v.unit ≡ unit → HasMask (used_from (unit_uses (group_uses uses group) unit)) v.mask) uses
   first [] agree = All-nil (λ (v : GroupUse). v.group ≡ group → v.unit ≡ unit → HasMask (used_from (unit_uses (group_uses [] group) unit)) v.mask)
   first (x ∷ us) agree = by (first us rest) (x.group == group) refl where
     heads : All (Same x) (x ∷ us)
     heads = All-head (λ u. All (Same u) (x ∷ us)) x us agree
+
     rest : Across Same us us
     rest i d within j e inside = agree (suc i) d (omega arith) (suc j) e (omega arith)
+
     others : List GroupUse
     others = unit_uses (group_uses us group) unit
+
     Known : List GroupUse → GroupUse → Type 0
     Known of v = v.group ≡ group → v.unit ≡ unit → HasMask (used_from of) v.mask
+
     here : All (Known others) us → x.group ≡ group → (b : Bool) → (x.unit == unit) ≡ b → All (Known (cond b (x ∷ others) others)) (x ∷ us)
     here more on true e =
         let same : x.unit ≡ unit = eqb-true x.unit unit e in
         All-cons (Known (x ∷ others)) x us (λ at is. refl)
         (All-weaker (Same x) (Known (x ∷ others)) (λ v mask at is. mask (on ∙ sym at) (same ∙ sym is)) us (All-tail (Same x) x us heads))
     here more on false e = All-cons (Known others) x us (λ at is. absurd (eqb-false x.unit unit e is)) more
+
     by : All (Known others) us → (b : Bool) → (x.group == group) ≡ b
         → All (Known (unit_uses (cond b (x ∷ group_uses us group) (group_uses us group)) unit)) (x ∷ us)
     by more true e = here more (eqb-true x.group group e) (x.unit == unit) refl
@@ -132,11 +139,12 @@ pub use_of : (P : GroupUse → Type 0) (uses : List GroupUse) (group unit : ℕ)
 use_of P uses group unit all =
     by (unit_uses (group_uses uses group) unit)
     (All-filter (λ (u : GroupUse). u.unit == unit) Q (group_uses uses group)
-      (all_and P (λ (u : GroupUse). (u.group == group) ≡ true) (group_uses uses group)
-        (All-filter (λ (u : GroupUse). u.group == group) P uses all) (filter_passes (λ (u : GroupUse). u.group == group) uses)))
+    (all_and P (λ (u : GroupUse). (u.group == group) ≡ true) (group_uses uses group)
+    (All-filter (λ (u : GroupUse). u.group == group) P uses all) (filter_passes (λ (u : GroupUse). u.group == group) uses)))
     (filter_passes (λ (u : GroupUse). u.unit == unit) (group_uses uses group)) where
       Q : GroupUse → Type 0
       Q u = P u × ((u.group == group) ≡ true)
+
       by : (us : List GroupUse) → All Q us → All (λ (u : GroupUse). (u.unit == unit) ≡ true) us → IfSome (used_from us) (UseOf P group unit)
       by [] one two = tt
       by (first ∷ others) one two =

@@ -61,8 +61,8 @@ task_regions : (geometry : Geometry) (r : Record) → IsTask geometry (outline r
 task_regions geometry r is =
     map_append holding_of (live_stands r.part 0 None r.rows) (past_stands r.part r.part.past r.rows)
     ∙ ap₂ (λ xs ys. xs ++ ys) (live_regions r.part 0 None r.rows)
-      (past_regions geometry r.part r.part.past r.rows
-      (All-weaker (IsRow geometry (outline r)) (λ (row : Row). option_map size_of row.frozen ≡ frozen_size r.part) (λ row h. h.frozen_size) r.rows is.each))
+    (past_regions geometry r.part r.part.past r.rows
+    (All-weaker (IsRow geometry (outline r)) (λ (row : Row). option_map size_of row.frozen ≡ frozen_size r.part) (λ row h. h.frozen_size) r.rows is.each))
 
 -- the regions of the rows are those that the tasks hold
 pub stands_hold : (geometry : Geometry) (rs : List Record) → All (IsTask geometry) (outlines rs) → map holding_of (all_stands rs) ≡ all_held (outlines rs)
@@ -71,7 +71,7 @@ stands_hold geometry [] each = refl
 stands_hold geometry (r ∷ rs) each =
     map_append holding_of (stands_by r) (flat_map stands_by rs)
     ∙ ap₂ (λ xs ys. xs ++ ys) (task_regions geometry r (All-head (IsTask geometry) (outline r) (outlines rs) each))
-      (stands_hold geometry rs (All-tail (IsTask geometry) (outline r) (outlines rs) each))
+    (stands_hold geometry rs (All-tail (IsTask geometry) (outline r) (outlines rs) each))
 
 -- ---- entries
 
@@ -98,8 +98,8 @@ past_spots part (Some past) rows = frozen_spots part past 0 rows
 task_spots : (r : Record) → map spot_by (filter is_live (stands_by r)) ≡ spots_by (outline r)
 task_spots r =
     ap (map spot_by) (filter-append is_live (live_stands r.part 0 None r.rows) (past_stands r.part r.part.past r.rows)
-      ∙ ap (λ ss. filter is_live (live_stands r.part 0 None r.rows) ++ ss) (past_spots r.part r.part.past r.rows)
-      ∙ append-nil (filter is_live (live_stands r.part 0 None r.rows)))
+    ∙ ap (λ ss. filter is_live (live_stands r.part 0 None r.rows) ++ ss) (past_spots r.part r.part.past r.rows)
+    ∙ append-nil (filter is_live (live_stands r.part 0 None r.rows)))
     ∙ live_spots r.part 0 None r.rows
 
 -- the entries of the live rows are those that the tasks take
@@ -156,8 +156,8 @@ stands_are geometry (r ∷ rs) each =
     let here : IsTask geometry (outline r) = All-head (IsTask geometry) (outline r) (outlines rs) each in
     All-append (IsStand geometry) (stands_by r) (flat_map stands_by rs)
     (All-append (IsStand geometry) (live_stands r.part 0 None r.rows) (past_stands r.part r.part.past r.rows)
-      (live_are geometry (outline r) r.part 0 None r.rows (omega (arith, here.rows)) here.each)
-      (past_are geometry (outline r) r.part r.part.past r.rows here.rows here.each))
+    (live_are geometry (outline r) r.part 0 None r.rows (omega (arith, here.rows)) here.each)
+    (past_are geometry (outline r) r.part r.part.past r.rows here.rows here.each))
     (stands_are geometry rs (All-tail (IsTask geometry) (outline r) (outlines rs) each))
 
 -- ---- a packet more
@@ -200,7 +200,7 @@ same_task one two past i (row ∷ rows) e = ap₂ (λ xs ys. xs ++ ys) (by row.f
   by : (frozen : Option Block) → frozen_stand one past i row frozen ≡ frozen_stand two past i row frozen
   by None = refl
   by (Some region) = ap (λ (task : Sketch).
-    (let s : Stand = record { live = false; task = task; packets = past.packets; row = i; array = row.array; region = region; keys = row.keys; before = None } in s) ∷ []) e
+      (let s : Stand = record { live = false; task = task; packets = past.packets; row = i; array = row.array; region = region; keys = row.keys; before = None } in s) ∷ []) e
 
 joined_task : (packet : Packet) (part : Part) → (joined_part packet part).task ≡ part.task
 joined_task packet part = by (passes part.task.filter packet.vec) where
@@ -222,8 +222,8 @@ task_joined : (packet : Packet) (r : Record) → stands_by (joined packet r) ≡
 task_joined packet r =
     ap₂ (λ xs ys. xs ++ ys) (live_joined packet r.part 0 None r.rows)
     (ap (λ past. past_stands (joined_part packet r.part) past r.rows) (joined_past packet r.part)
-      ∙ past_same (joined_part packet r.part) r.part r.part.past r.rows (joined_task packet r.part)
-      ∙ past_joined packet r.part r.part.past r.rows)
+    ∙ past_same (joined_part packet r.part) r.part r.part.past r.rows (joined_task packet r.part)
+    ∙ past_joined packet r.part r.part.past r.rows)
     ∙ sym (map_append (joined_stand packet) (live_stands r.part 0 None r.rows) (past_stands r.part r.part.past r.rows))
 
 -- a packet joins the live rows whose filter matches it

@@ -42,6 +42,7 @@ pub unit_use : (P : GroupUse → Type 0) (geometry : Geometry) (uses : List Grou
 unit_use P geometry uses group unit all = by (cases_lt unit (group_in geometry group).units) where
   units : List (Option UsedUnit)
   units = units_on geometry uses group
+
   by : (unit < (group_in geometry group).units) ⊎ ((group_in geometry group).units ≤ unit) → IfSome (unit_at units unit) (UseOf P group unit)
   by (inl within) =
       subst (λ (o : Option UsedUnit). IfSome o (UseOf P group unit)) (sym (unit_seen (group_in geometry group).units (group_uses uses group) unit within))
@@ -135,7 +136,7 @@ keys_give units key keys found = of_found (GiveIt units key) units key keys foun
         fit = All-cons (IsFit units key) one (two ∷ [])
             (record { exists = omega arith; fresh = λ none. absurd (some_not_none (unit_at units one) xors.0.0 none) })
             (All-cons (IsFit units key) two [] (record { exists = within; fresh = λ none. absurd (some_not_none (unit_at units two) xors.0.1 none) })
-              (All-nil (IsFit units key)));
+            (All-nil (IsFit units key)));
         used = two_across (BothUsed units) one two (λ ne. absurd (ne refl)) (λ ne. xors.0) (λ ne. (xors.0.1, xors.0.0)) (λ ne. absurd (ne refl));
         gives = xors.1;
       };
@@ -184,20 +185,24 @@ pub new_agrees : (geometry : Geometry) (uses : List GroupUse) (group unit : ℕ)
 new_agrees geometry uses group unit key are fit = by (unit_at units unit) refl where
   units : List (Option UsedUnit)
   units = units_on geometry uses group
+
   count : ℕ
   count = (group_in geometry group).units
+
   long : length units ≡ count
   long = length_units count (group_uses uses group)
+
   known : (k : ℕ) → k < count → All (λ (v : GroupUse). v.group ≡ group → v.unit ≡ k → HasMask (unit_at units k) v.mask) uses
   known k within =
       subst (λ (o : Option UsedUnit). All (λ (v : GroupUse). v.group ≡ group → v.unit ≡ k → HasMask o v.mask) uses)
       (sym (unit_seen count (group_uses uses group) k within)) (masks_known uses group k are.agree)
+
   by : (o : Option UsedUnit) → unit_at units unit ≡ o → All (λ v. AgreeOnUnits v (new_use units key group unit)) uses
   by (Some used) e =
       let agrees : KnownUse uses (new_use units key group unit) =
       used_is units key group unit (Some used) (KnownUse uses) e refl
       (subst (λ (o : Option UsedUnit). IfSome o (UseOf (KnownUse uses) group unit)) e
-        (unit_use (KnownUse uses) geometry uses group unit (known_uses geometry uses are))) in
+      (unit_use (KnownUse uses) geometry uses group unit (known_uses geometry uses are))) in
       All-weaker (AgreeOnUnits (new_use units key group unit)) (λ v. AgreeOnUnits v (new_use units key group unit))
       (λ v a. agree_turned (new_use units key group unit) v a) uses agrees.0
   by None e = λ i d within.
