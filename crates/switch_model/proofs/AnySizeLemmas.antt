@@ -1,5 +1,5 @@
 -- The cells of a task know nothing of its own size.
-use Rattle.std.proofs.Common.{◌≡◌, ℕ, ◌+◌, ◌^◌, ◌==◌, Bool, List, [], ◌∷◌, map, filter, refl, ap, ap₂, sym, ◌∙◌}
+use Rattle.std.proofs.Common.{◌≡◌, ℕ, ◌+◌, ◌^◌, ◌==◌, Bool, List, [], ◌∷◌, map, filter, refl, ap, ◌∙◌}
 use Rattle.std.specs.Prelude.{Option, None, Some, replicate, slice_index, slice_set}
 use Rattle.std.specs.List.{fold, range_with_len}
 use Rattle.std.proofs.Math.Path.{fun_ext}

@@ -1,10 +1,9 @@
 -- A packet makes at most one operation on an array, and leaves the registers laid out.
-use Rattle.std.proofs.Common.{◌≡◌, ◌≢◌, ℕ, zero, suc, ◌+◌, ◌^◌, ◌<◌, ◌≤◌, ◌==◌, ◌&&◌, Bool, true, false, cond, List, [], ◌∷◌, ◌++◌, length, get_or, map, filter, refl, ap, ap₂, sym, ◌∙◌, subst, arith, eq-eqb, ⊎_elim, inl, inr}
-use Rattle.std.specs.Prelude.{◌⊎◌, ◌||◌, nat_le, slice_index}
-use Rattle.std.specs.List.{All, AllPairs, flat_map, fold, range_with_len}
-use Rattle.std.proofs.lemmas.Bool.{false≢true, eqb-true, ne_eqb, cases_eq}
+use Rattle.std.proofs.Common.{◌≡◌, ◌≢◌, ℕ, zero, suc, ◌+◌, ◌^◌, ◌<◌, ◌≤◌, ◌==◌, ◌&&◌, Bool, true, false, cond, List, [], ◌∷◌, ◌++◌, get_or, map, filter, refl, ap, ap₂, sym, ◌∙◌, subst, arith, eq-eqb, ⊎_elim}
+use Rattle.std.specs.Prelude.{◌||◌, nat_le, slice_index}
+use Rattle.std.specs.List.{All, AllPairs, flat_map, range_with_len}
+use Rattle.std.proofs.lemmas.Bool.{false≢true, eqb-true, cases_eq}
 use Rattle.std.proofs.lemmas.Bool.Decides.{nat_tests}
-use Rattle.std.proofs.lemmas.List.{append-nil}
 use Rattle.std.proofs.lemmas.List.Elements.{All-nil, All-cons, All-head, All-tail, All-map, All-weaker, All-filter, filter_passes, filter-append}
 use Rattle.std.proofs.lemmas.List.Kept.{AllPairs-cons, AllPairs-filter}
 use Rattle.std.proofs.lemmas.List.Sums.{fold-append}
@@ -12,7 +11,7 @@ use Rattle.addr_translate.specs.Blocks.{Block}
 use Rattle.addr_translate.specs.Geometry.{Geometry, array_count}
 use Rattle.partition_pool.specs.Regions.{are_apart}
 use Rattle.pkt_headers.specs.declared.packets.Packet.{Packet}
-use Rattle.task_filters.specs.Filters.{passes, are_disjoint}
+use Rattle.task_filters.specs.Filters.{passes}
 use Rattle.match_table.proofs.OrderLemmas.{passes_one}
 use Rattle.stateful_ops.specs.Ops.{new_register}
 use Rattle.reg_file.specs.declared.traits.Call.{Call}
@@ -22,9 +21,9 @@ use Rattle.sketch_defs.specs.Cells.{index_at, cells_of, row_of}
 use Rattle.sketch_lower.proofs.CellLemmas.{place_lt}
 use Rattle.sketch_lower.proofs.RowLemmas.{cell_here, cell_elsewhere}
 use Rattle.switch_model.specs.Records.{Record, outlines}
-use Rattle.switch_model.specs.Sights.{Holding, Spot, all_held, all_spots}
-use Rattle.switch_model.specs.Soundness.{ShareNone, MatchNone, Sound, IsTask}
-use Rattle.switch_model.specs.Packets.{join, Stand, all_stands, HoldsCells, Layout, takes_on, call_of, calls_on, calls_of}
+use Rattle.switch_model.specs.Sights.{Holding}
+use Rattle.switch_model.specs.Soundness.{ShareNone, MatchNone, Sound}
+use Rattle.switch_model.specs.Packets.{Stand, all_stands, HoldsCells, takes_on, call_of, calls_on, calls_of}
 use Rattle.switch_model.specs.Laws.{OneCallAnArray, PacketKeepsLayout}
 use Rattle.switch_model.proofs.ListLemmas.{Across, Around, around, pairs_flat, pairs_map, pairs_mapped, pairs_known, pairs_weaker, no_pairs, map_append, all_flat, all_split, all_here, all_and, all_front, all_back}
 use Rattle.switch_model.proofs.StandLemmas.{IsStand, holding_of, is_live, spot_by, joined_stand, stands_hold, stands_enter, stands_are, stands_joined}

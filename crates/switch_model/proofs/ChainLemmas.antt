@@ -1,11 +1,11 @@
 -- A row of SuMax-Sum finds, as its bound, the carry of the row before, which stands in an earlier group.
-use Rattle.std.proofs.Common.{◌≡◌, ◌≢◌, ℕ, zero, suc, ◌+◌, ◌-◌, ◌^◌, ◌<◌, ◌≤◌, ◌==◌, ◌&&◌, Bool, true, false, List, [], ◌∷◌, ◌++◌, length, get_or, map, refl, ap, ap₂, sym, ◌∙◌, subst, arith, eq-eqb}
+use Rattle.std.proofs.Common.{◌≡◌, ℕ, suc, ◌+◌, ◌-◌, ◌^◌, ◌<◌, ◌≤◌, ◌&&◌, Bool, true, false, List, [], ◌∷◌, ◌++◌, refl, ap, ap₂, sym, ◌∙◌, subst, arith, eq-eqb}
 use Rattle.std.specs.Prelude.{◌⊎◌, Option, None, Some, nat_lt, if◌then◌else◌}
 use Rattle.std.specs.List.{All, AllPairs, Contains, flat_map}
 use Rattle.std.proofs.Common.{inl, inr}
 use Rattle.std.proofs.Math.Pow.{pow-lt}
 use Rattle.std.proofs.lemmas.Bool.{false≢true, cases_lt, ltb-true, ltb-false}
-use Rattle.std.proofs.lemmas.List.Elements.{All-nil, All-cons, All-head, All-tail, All-append, All-weaker, All-contains, All-contains_itself, Contains-append_left, Contains-append_right}
+use Rattle.std.proofs.lemmas.List.Elements.{All-nil, All-cons, All-head, All-tail, All-append, All-contains, All-contains_itself}
 use Rattle.addr_translate.specs.declared.shapes.GroupShape.{GroupShape}
 use Rattle.addr_translate.specs.Geometry.{Geometry, groups_ended, group_number}
 use Rattle.addr_translate.specs.Blocks.{Block}
@@ -109,7 +109,7 @@ chained_rows geometry o part whole i before prev (row ∷ rows) same is each ris
           };
     })
     (chained_rows geometry o part whole (i + 1) (Some prev.array) row rows same here (All-tail (IsRow geometry o) row rows each)
-      (pairs_tail (RisesIn geometry o.task.kind) prev (row ∷ rows) rising) (All-head (Contains whole) s rest others) (All-tail (Contains whole) s rest others))
+    (pairs_tail (RisesIn geometry o.task.kind) prev (row ∷ rows) rising) (All-head (Contains whole) s rest others) (All-tail (Contains whole) s rest others))
 
 chained_live : (geometry : Geometry) (o : Outline) (part : Part) (whole : List Stand) (rows : List Row) → part.task ≡ o.task
     → All (IsRow geometry o) rows → AllPairs (RisesIn geometry o.task.kind) rows → All (Contains whole) (live_stands part 0 None rows)
@@ -124,7 +124,7 @@ chained_live geometry o part whole (row ∷ rows) same each rising among =
       later = λ live chained array is. absurd (let never : None ≡ Some array = is in cc);
     })
     (chained_rows geometry o part whole 0 None row rows same (All-head (IsRow geometry o) row rows each) (All-tail (IsRow geometry o) row rows each) rising
-      (All-head (Contains whole) s rest among) (All-tail (Contains whole) s rest among))
+    (All-head (Contains whole) s rest among) (All-tail (Contains whole) s rest among))
 
 frozen_chained : (geometry : Geometry) (whole : List Stand) (part : Part) (past : Past) (i : ℕ) (rows : List Row)
     → All (Chained geometry whole) (frozen_stands part past i rows)
@@ -152,9 +152,9 @@ chained_among geometry whole (r ∷ rs) each among =
     let frozen : List Stand = past_stands r.part r.part.past r.rows in
     All-append (Chained geometry whole) (stands_by r) (flat_map stands_by rs)
     (All-append (Chained geometry whole) live frozen
-      (chained_live geometry (outline r) r.part whole r.rows refl here.each here.rising
-        (all_front (Contains whole) live frozen (all_front (Contains whole) (stands_by r) (flat_map stands_by rs) among)))
-      (past_chained geometry whole r.part r.part.past r.rows))
+    (chained_live geometry (outline r) r.part whole r.rows refl here.each here.rising
+    (all_front (Contains whole) live frozen (all_front (Contains whole) (stands_by r) (flat_map stands_by rs) among)))
+    (past_chained geometry whole r.part r.part.past r.rows))
     (chained_among geometry whole rs (All-tail (IsTask geometry) (outline r) (outlines rs) each) (all_back (Contains whole) (stands_by r) (flat_map stands_by rs) among))
 
 -- of sound tasks each live row but the first follows another

@@ -1,73 +1,25 @@
 -- A resize, a removal and a release leave the tasks sound.
-use Rattle.std.proofs.Common.{◌≡◌, ◌≢◌, ℕ, zero, suc, ◌+◌, ◌^◌, ◌<◌, ◌≤◌, Bool, true, false, List, [], ◌∷◌, ◌++◌, length, get_or, map, remove, refl, ap, ap₂, sym, ◌∙◌, subst, arith, append-nil, append_assoc}
-use Rattle.std.specs.Prelude.{Option, None, Some, IfSome, Result, Ok, Err, is_some, option_map}
-use Rattle.std.specs.List.{All, AllPairs, cons_option, filter_map, flat_map}
-use Rattle.std.proofs.lemmas.List.Elements.{All-nil, All-cons, All-head, All-tail, All-append, All-map, All-weaker}
-use Rattle.addr_translate.specs.Blocks.{Block}
-use Rattle.addr_translate.specs.Geometry.{Geometry, IsGeometry, array_count, bits_of, group_number}
+use Rattle.std.proofs.Common.{◌≡◌, ℕ, ◌+◌, ◌^◌, ◌<◌, false, List, [], ◌∷◌, ◌++◌, get_or, map, refl, ap, ap₂, sym, ◌∙◌, subst, arith, append-nil, append_assoc}
+use Rattle.std.specs.Prelude.{Option, None, Some, is_some, Result, Ok, Err}
+use Rattle.std.specs.List.{All, AllPairs, filter_map}
+use Rattle.std.proofs.lemmas.List.Elements.{All-nil, All-cons, All-map, All-weaker}
+use Rattle.addr_translate.specs.Geometry.{Geometry, IsGeometry, array_count}
 use Rattle.addr_translate.proofs.GeometryLemmas.{bits_within, greatest_at_most}
 use Rattle.partition_pool.specs.Regions.{is_free}
-use Rattle.sketch_defs.specs.declared.kinds.Kind.{Kind}
-use Rattle.sketch_defs.specs.declared.kinds.Kind.TheVariants.{Cms, SumaxSum, SumaxMax, Bloom, Mrac, Hll, FlagOr, FlagAnd}
 use Rattle.sketch_defs.specs.Tasks.{Sketch}
-use Rattle.placer.specs.Sights.{Sight, bits_for, taken_at, region_for}
+use Rattle.placer.specs.Sights.{Sight, bits_for, region_for}
 use Rattle.placer.proofs.SightLemmas.{IsSize, size_is, region_for_found}
 use Rattle.switch_model.specs.Records.{Row, Outline}
-use Rattle.switch_model.specs.Sights.{Holding, Spot, GroupUse, live_holding, frozen_in, frozen_holding, held_in, held_by, all_held, spot_of, spots_from, spots_by, all_spots, row_uses, uses_by, all_uses, sight_of}
-use Rattle.switch_model.specs.Soundness.{IsRow, IsTask, IsPartOf, GiveKey, RisesIn, HaveOwnNames, ShareNone, MatchNone, AgreeOnUnits, Sound, size_of}
+use Rattle.switch_model.specs.Sights.{live_holding, held_by, all_held, spots_by, all_spots, uses_by, all_uses, sight_of, Holding, frozen_holding}
+use Rattle.switch_model.specs.Soundness.{IsRow, IsTask, IsPartOf, RisesIn, GiveKey, HaveOwnNames, ShareNone, MatchNone, AgreeOnUnits, Sound}
 use Rattle.switch_model.specs.Changes.{moved_row, moved_first, moved_rows, moved_outline, thawed_row, thawed_outline}
-use Rattle.switch_model.proofs.ListLemmas.{Across, Around, Parts, around, pairs_parts, flat_append, all_front, all_back, all_here, all_between, all_without, pairs_append, pairs_map, pairs_mapped, pairs_weaker, map_append, length_map, across_turned}
+use Rattle.switch_model.proofs.ListLemmas.{Across, pairs_map, pairs_mapped, pairs_weaker, length_map, Around, around, all_here, all_between, all_without, map_append}
 use Rattle.switch_model.proofs.IsolationLemmas.{renamed}
 use Rattle.switch_model.proofs.CallLemmas.{share_turned}
 use Rattle.switch_model.proofs.StandLemmas.{none_frozen, no_size}
 use Rattle.switch_model.proofs.SightLemmas.{taken_seen, free_of_all}
-use Rattle.switch_model.proofs.AddLemmas.{Key, KeysMatchNone, key_of, row_key, spot_keys, OnDifferent, different_regions, rises_differ}
-
--- ---- a task between others
-
-pub held_between : (front back : List Outline) (o : Outline) → all_held (front ++ o ∷ back) ≡ all_held front ++ (held_by o ++ all_held back)
-unfolding all_held
-held_between front back o = flat_append held_by front (o ∷ back)
-
-pub spots_between : (front back : List Outline) (o : Outline) → all_spots (front ++ o ∷ back) ≡ all_spots front ++ (spots_by o ++ all_spots back)
-unfolding all_spots
-spots_between front back o = flat_append spots_by front (o ∷ back)
-
-pub uses_between : (geometry : Geometry) (front back : List Outline) (o : Outline)
-    → all_uses geometry (front ++ o ∷ back) ≡ all_uses geometry front ++ (uses_by geometry o ++ all_uses geometry back)
-unfolding all_uses
-uses_between geometry front back o = flat_append (uses_by geometry) front (o ∷ back)
-
-pub held_both : (front back : List Outline) → all_held (front ++ back) ≡ all_held front ++ all_held back
-unfolding all_held
-held_both front back = flat_append held_by front back
-
-pub spots_both : (front back : List Outline) → all_spots (front ++ back) ≡ all_spots front ++ all_spots back
-unfolding all_spots
-spots_both front back = flat_append spots_by front back
-
-pub uses_both : (geometry : Geometry) (front back : List Outline) → all_uses geometry (front ++ back) ≡ all_uses geometry front ++ all_uses geometry back
-unfolding all_uses
-uses_both geometry front back = flat_append (uses_by geometry) front back
-
--- ---- pairs, with a piece less or more
-
-pub pairs_cut : {X : Type 0} (R : X → X → Type 0) (xs ys zs : List X) → AllPairs R (xs ++ (ys ++ zs)) → AllPairs R (xs ++ zs)
-pairs_cut R xs ys zs pairs =
-    let parts : Parts R xs (ys ++ zs) = pairs_parts R xs (ys ++ zs) pairs in
-    let rest : Parts R ys zs = pairs_parts R ys zs parts.back in
-    pairs_append R xs zs parts.front rest.back
-    (All-weaker (λ x. All (R x) (ys ++ zs)) (λ x. All (R x) zs) (λ x all. all_back (R x) ys zs all) xs parts.across)
-
-pub pairs_inserted : {X : Type 0} (R : X → X → Type 0) → ((x y : X) → R x y → R y x) → (xs ns ys : List X) → AllPairs R (xs ++ ys) → AllPairs R ns
-    → Across R ns (xs ++ ys) → AllPairs R (xs ++ (ns ++ ys))
-pairs_inserted R turned xs ns ys pairs news across =
-    let parts : Parts R xs ys = pairs_parts R xs ys pairs in
-    let with_front : Across R xs ns =
-    across_turned R R turned ns xs (All-weaker (λ n. All (R n) (xs ++ ys)) (λ n. All (R n) xs) (λ n all. all_front (R n) xs ys all) ns across) in
-    let with_back : Across R ns ys = All-weaker (λ n. All (R n) (xs ++ ys)) (λ n. All (R n) ys) (λ n all. all_back (R n) xs ys all) ns across in
-    pairs_append R xs (ns ++ ys) parts.front (pairs_append R ns ys news parts.back with_back)
-    (λ k d within. All-append (R (get_or xs k d)) ns ys (with_front k d within) (parts.across k d within))
+use Rattle.addr_translate.specs.Blocks.{Block}
+use Rattle.switch_model.proofs.PieceLemmas.{held_between, spots_between, uses_between, held_both, spots_both, uses_both, pairs_cut, pairs_inserted, rises_differ, rises_same, key_of, KeysMatchNone, spot_keys, OnDifferent, different_regions, keep_keys, keep_uses}
 
 -- ---- a removal
 
@@ -110,30 +62,6 @@ sound_edited geometry front back o p sound name is regions spots uses = record {
       (uses_between geometry front back o ∙ ap (λ us. all_uses geometry front ++ (us ++ all_uses geometry back)) (sym uses) ∙ sym (uses_between geometry front back p)) sound.units;
 }
 
-pub rises_same : (geometry : Geometry) (kind : Kind) (one two p q : Row) → p.array ≡ one.array → q.array ≡ two.array → RisesIn geometry kind one two
-    → RisesIn geometry kind p q
-rises_same geometry Cms one two p q e f less = omega arith
-rises_same geometry SumaxSum one two p q e f less =
-    let first : group_number geometry p.array ≡ group_number geometry one.array = ap (group_number geometry) e in
-    let second : group_number geometry q.array ≡ group_number geometry two.array = ap (group_number geometry) f in
-    omega arith
-rises_same geometry SumaxMax one two p q e f less = omega arith
-rises_same geometry Bloom one two p q e f less = omega arith
-rises_same geometry Mrac one two p q e f less = omega arith
-rises_same geometry Hll one two p q e f less = omega arith
-rises_same geometry FlagOr one two p q e f less = omega arith
-rises_same geometry FlagAnd one two p q e f less = omega arith
-
--- rows that keep their arrays keep entries but for regions, and those that keep masks as well keep uses
-keep_keys : (task : Sketch) (f : Row → Row) → ((row : Row) → (f row).array ≡ row.array) → (rows : List Row)
-    → map (row_key task) (map f rows) ≡ map (row_key task) rows
-keep_keys task f arrays [] = refl
-keep_keys task f arrays (row ∷ rows) = ap₂ (λ k ks. k ∷ ks) (ap (λ a. (let k : Key = record { array = a; filter = task.filter } in k)) (arrays row)) (keep_keys task f arrays rows)
-
-keep_uses : (geometry : Geometry) (f : Row → Row) → ((row : Row) → row_uses geometry (f row) ≡ row_uses geometry row) → (rows : List Row)
-    → flat_map (row_uses geometry) (map f rows) ≡ flat_map (row_uses geometry) rows
-keep_uses geometry f same [] = refl
-keep_uses geometry f same (row ∷ rows) = ap₂ (λ us vs. us ++ vs) (same row) (keep_uses geometry f same rows)
 
 -- ---- a release
 

@@ -1,5 +1,5 @@
 -- What an accepted change is.
-use Rattle.std.proofs.Common.{◌≡◌, ℕ, Bool, true, false, cond, List, [], ◌∷◌, ◌++◌, length, map, position, refl, ap, sym, ◌∙◌, subst}
+use Rattle.std.proofs.Common.{◌≡◌, ℕ, Bool, true, false, cond, List, ◌∷◌, ◌++◌, length, map, position, refl, ap, sym, ◌∙◌}
 use Rattle.std.specs.Prelude.{Option, None, Some, Result, Ok, Err, is_some}
 use Rattle.std.specs.List.{All, slice_get}
 use Rattle.addr_translate.specs.Geometry.{Geometry}
@@ -10,7 +10,7 @@ use Rattle.placer.specs.declared.places.Place.{Place}
 use Rattle.placer.specs.declared.places as places
 use Rattle.switch_model.specs.Records.{Row, Outline}
 use Rattle.switch_model.specs.Sights.{sight_of}
-use Rattle.switch_model.specs.Changes.{Change, Add, Resize, Remove, Release, Edit, Push, Move, Drop, Thaw, Refusal, Exists, BadMemory, Misplaced, FrozenHeld, NoRoom, NoFrozen, is_called, row_at, pushed, added, moved_rows, moved, resized, at_found, at_place, at_name, judged}
+use Rattle.switch_model.specs.Changes.{Add, Resize, Remove, Release, Edit, Push, Move, Drop, Thaw, Refusal, Exists, FrozenHeld, NoFrozen, is_called, row_at, pushed, added, moved_rows, moved, resized, at_found, at_place, at_name, judged}
 use Rattle.switch_model.proofs.ListLemmas.{Parted, parted, get_here, none_passes}
 
 pub if_ok : {T E : Type 0} (b : Bool) (e : E) (r : Result T E) (x : T) → cond b (Err e) r ≡ Ok x → (b ≡ false) × (r ≡ Ok x)

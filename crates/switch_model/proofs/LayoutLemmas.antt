@@ -1,24 +1,22 @@
 -- A change that fills the regions that it takes, and no other register, leaves the registers laid out.
-use Rattle.std.proofs.Common.{◌≡◌, ◌≢◌, ℕ, zero, suc, ◌+◌, ◌^◌, ◌<◌, ◌≤◌, ◌==◌, ◌&&◌, Bool, true, false, List, [], ◌∷◌, ◌++◌, length, get_or, map, remove, replicate, refl, ap, ap₂, sym, ◌∙◌, subst, arith, eq-eqb, append-nil, append_assoc}
-use Rattle.std.specs.Prelude.{◌||◌, ◌-◌, Option, None, Some, Result, Ok, Err, nat_le, nat_lt, slice_index, is_some, option_map}
-use Rattle.std.specs.List.{All, AllPairs, list_any, flat_map, filter_map}
-use Rattle.std.proofs.lemmas.Bool.{false≢true, eqb-true, leb-true, ltb-true, le-leb, lt-ltb}
+use Rattle.std.proofs.Common.{◌≡◌, ℕ, ◌+◌, ◌^◌, ◌<◌, ◌≤◌, ◌==◌, ◌&&◌, Bool, true, false, List, [], ◌∷◌, ◌++◌, length, get_or, map, remove, replicate, refl, ap, ap₂, sym, ◌∙◌, subst, arith, eq-eqb, append-nil}
+use Rattle.std.specs.Prelude.{◌||◌, ◌-◌, Option, None, Some, nat_le, nat_lt, slice_index}
+use Rattle.std.specs.List.{All, list_any, flat_map}
+use Rattle.std.proofs.lemmas.Bool.{eqb-true, leb-true, ltb-true, le-leb, lt-ltb}
 use Rattle.std.proofs.lemmas.List.{get_or-replicate}
-use Rattle.std.proofs.lemmas.List.Elements.{All-nil, All-cons, All-head, All-tail, All-append, All-map, All-weaker}
+use Rattle.std.proofs.lemmas.List.Elements.{All-nil, All-cons, All-head, All-tail, All-append}
 use Rattle.addr_translate.specs.Blocks.{Block}
 use Rattle.addr_translate.specs.Geometry.{Geometry, IsGeometry}
-use Rattle.partition_pool.specs.Regions.{are_apart}
-use Rattle.pkt_headers.specs.declared.packets.Packet.{Packet}
 use Rattle.reg_file.specs.Registers.{Contents}
 use Rattle.sketch_defs.specs.Tasks.{Sketch}
 use Rattle.sketch_defs.specs.Cells.{cells_of, row_of}
 use Rattle.sketch_lower.specs.Operations.{start_of}
 use Rattle.sketch_lower.proofs.CellLemmas.{cells_start}
 use Rattle.switch_model.specs.Records.{Past, Part, Row, Record, Outline, outline, outlines}
-use Rattle.switch_model.specs.Sights.{Holding, live_holding, held_by, all_held, sight_of}
+use Rattle.switch_model.specs.Sights.{Holding, live_holding, sight_of}
 use Rattle.switch_model.specs.Soundness.{ShareNone, IsTask, Sound}
-use Rattle.switch_model.specs.Changes.{Change, Add, Resize, Remove, Release, Edit, Move, Drop, Thaw, row_at, started, resized_part, released_part, moved_row, moved_rows, thawed_row, edit_at, edited_records}
-use Rattle.switch_model.specs.Packets.{Stand, live_stand, live_stands, frozen_stand, frozen_stands, past_stands, stands_by, all_stands, HoldsCells, Layout, cells_at}
+use Rattle.switch_model.specs.Changes.{Add, Resize, Remove, Release, Edit, Move, Drop, Thaw, row_at, started, resized_part, released_part, moved_row, moved_rows, thawed_row, edit_at, edited_records}
+use Rattle.switch_model.specs.Packets.{Stand, live_stand, live_stands, frozen_stands, past_stands, stands_by, all_stands, HoldsCells, Layout}
 use Rattle.switch_model.specs.Laws.{Refilled, is_in, fresh_of, start_in, ChangeKeepsLayout}
 use Rattle.switch_model.proofs.ListLemmas.{Across, flat_append, all_front, all_back, all_here, all_mapped, map_append, length_map, edited_here, removed_here}
 use Rattle.switch_model.proofs.JudgedLemmas.{AddIs, ResizeIs, EditsAt, add_is, resize_is, remove_is, release_is}
@@ -27,7 +25,7 @@ use Rattle.switch_model.proofs.AddLemmas.{news_apart, all_placed}
 use Rattle.switch_model.proofs.EditLemmas.{moved_by, region_of, AreMoved, are_moved, all_moving, moved_apart}
 use Rattle.placer.specs.Sights.{Sight, region_for}
 use Rattle.placer.proofs.PlacementLemmas.{ArePlaces, placed_accepted}
-use Rattle.switch_model.proofs.CallLemmas.{and_parts, apart_misses, share_turned}
+use Rattle.switch_model.proofs.CallLemmas.{and_parts, apart_misses}
 use Rattle.switch_model.proofs.AnySizeLemmas.{cells_any_size}
 use Rattle.switch_model.proofs.StandLemmas.{holding_of, stands_hold}
 

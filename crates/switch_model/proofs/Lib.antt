@@ -7,7 +7,9 @@ pub mod IsolationLemmas
 pub mod JudgedLemmas
 pub mod LayoutLemmas
 pub mod ListLemmas
+pub mod PieceLemmas
 pub mod RestorationLemmas
+pub mod RowLemmas
 pub mod SightLemmas
 pub mod SoundLemmas
 pub mod StandLemmas

@@ -1,15 +1,14 @@
 -- An added task that goes again leaves what was there.
-use Rattle.std.proofs.Common.{◌≡◌, ℕ, Bool, true, false, cond, List, [], ◌∷◌, ◌++◌, length, map, position, remove, refl, ap, sym, ◌∙◌, subst}
-use Rattle.std.specs.Prelude.{Option, None, Some, Result, Ok, Err}
-use Rattle.std.specs.List.{All, fold, slice_get}
+use Rattle.std.proofs.Common.{◌≡◌, ℕ, false, List, [], ◌∷◌, ◌++◌, length, map, refl, ap, ◌∙◌}
+use Rattle.std.specs.Prelude.{Result, Ok, Err}
+use Rattle.std.specs.List.{All, fold}
 use Rattle.std.proofs.lemmas.List.{append-nil}
 use Rattle.std.proofs.lemmas.List.Sums.{fold-append}
 use Rattle.addr_translate.specs.Geometry.{Geometry}
 use Rattle.pkt_headers.specs.declared.packets.Packet.{Packet}
-use Rattle.sketch_defs.specs.Tasks.{Sketch}
-use Rattle.switch_model.specs.Records.{Row, Record, Outline, outlines}
+use Rattle.switch_model.specs.Records.{Record, Outline, outlines}
 use Rattle.switch_model.specs.Sights.{sight_of}
-use Rattle.switch_model.specs.Changes.{Change, Add, Remove, Edit, Push, Drop, Refusal, is_called, row_at, new_outline, at_found, at_place, judged, edited_outlines, edited_records, after_verdict, changed}
+use Rattle.switch_model.specs.Changes.{Change, Remove, Edit, Drop, Refusal, is_called, row_at, new_outline, at_found, at_place, judged, edited_outlines, edited_records, after_verdict, changed}
 use Rattle.switch_model.specs.Histories.{Event, Passes, Changes, stepped, after}
 use Rattle.switch_model.specs.Laws.{Restores}
 use Rattle.switch_model.proofs.ListLemmas.{position_here, get_here, removed_here}

@@ -1,27 +1,23 @@
 -- What a placement sees of tasks, array by array and unit by unit.
-use Rattle.std.proofs.Common.{◌≡◌, ◌≢◌, ℕ, zero, suc, ◌+◌, ◌<◌, ◌≤◌, ◌==◌, ◌&&◌, Bool, true, false, cond, List, [], ◌∷◌, ◌++◌, length, get_or, map, filter, refl, ap, ap₂, sym, ◌∙◌, subst, arith, eq-eqb, position}
-use Rattle.std.specs.Prelude.{Option, None, Some, IfSome, IsSome}
-use Rattle.std.specs.List.{All, AllPairs, list_all, range_with_len}
-use Rattle.std.specs.Str.{bytes_eq}
-use Rattle.std.proofs.lemmas.Bool.{false≢true, eqb-true, eqb-false, cases_lt}
-use Rattle.std.proofs.lemmas.List.Elements.{All-nil, All-cons, All-head, All-tail, All-map, All-weaker, All-filter, filter_passes}
+use Rattle.std.proofs.Common.{◌≡◌, ℕ, suc, ◌<◌, ◌≤◌, ◌==◌, ◌&&◌, Bool, true, false, cond, List, [], ◌∷◌, length, get_or, map, filter, refl, ap, sym, ◌∙◌, arith}
+use Rattle.std.specs.Prelude.{Option, None, Some, IfSome}
+use Rattle.std.specs.List.{All, AllPairs, list_all}
+use Rattle.std.proofs.lemmas.Bool.{false≢true, eqb-true, eqb-false}
+use Rattle.std.proofs.lemmas.List.Elements.{All-nil, All-cons, All-head, All-tail, All-weaker, All-filter, filter_passes}
 use Rattle.std.proofs.lemmas.List.FromFn.{get_or-map-range_with_len, length-map-range_with_len}
 use Rattle.addr_translate.specs.Blocks.{Block}
-use Rattle.addr_translate.specs.Geometry.{Geometry, array_count, group_in, group_number}
+use Rattle.addr_translate.specs.Geometry.{Geometry, array_count, group_number}
 use Rattle.addr_translate.proofs.GeometryLemmas.{ended_below}
 use Rattle.partition_pool.specs.Regions.{are_apart, is_free, begins_before}
 use Rattle.task_filters.specs.Filters.{Pattern, are_disjoint}
-use Rattle.match_table.specs.declared.entries.Entry.{Entry}
 use Rattle.match_table.specs.Tables.{admits, is_apart}
-use Rattle.match_table.proofs.ChangeLemmas.{all_pass}
 use Rattle.group_keys.specs.Units.{UsedUnit, unit_at}
 use Rattle.placer.specs.Sights.{rules_at, taken_at, units_at}
 use Rattle.placer.proofs.SightLemmas.{all_sorted}
 use Rattle.switch_model.specs.Records.{Outline}
 use Rattle.switch_model.specs.Sights.{Holding, Spot, GroupUse, all_held, all_spots, all_uses, taken_on, rules_on, group_uses, unit_uses, used_from, units_from, units_on, sight_of}
-use Rattle.switch_model.specs.Soundness.{ShareNone, MatchNone, AgreeOnUnits}
+use Rattle.switch_model.specs.Soundness.{ShareNone, AgreeOnUnits}
 use Rattle.switch_model.proofs.ListLemmas.{Across, all_and, pairs_head, pairs_tail}
-use Rattle.switch_model.proofs.CallLemmas.{share_turned}
 
 -- ---- array by array
 

@@ -1,21 +1,20 @@
 -- Rows with their packets, and the regions and entries of the same rows.
-use Rattle.std.proofs.Common.{◌≡◌, ◌≢◌, ℕ, suc, ◌+◌, ◌<◌, ◌≤◌, ◌==◌, ◌&&◌, Bool, true, false, cond, List, [], ◌∷◌, ◌++◌, length, map, filter, refl, ap, ap₂, sym, ◌∙◌, subst, arith}
+use Rattle.std.proofs.Common.{◌≡◌, ℕ, ◌+◌, ◌<◌, ◌&&◌, Bool, true, false, cond, List, [], ◌∷◌, ◌++◌, length, map, filter, refl, ap, ap₂, sym, ◌∙◌, arith}
 use Rattle.std.specs.Prelude.{Option, None, Some, IfSome, option_map, if◌then◌else◌}
-use Rattle.std.specs.List.{All, AllPairs, cons_option, filter_map, flat_map}
-use Rattle.std.proofs.lemmas.List.{append-nil, append_assoc}
+use Rattle.std.specs.List.{All, cons_option, filter_map, flat_map}
+use Rattle.std.proofs.lemmas.List.{append-nil}
 use Rattle.std.proofs.lemmas.List.Elements.{All-nil, All-cons, All-head, All-tail, All-append, All-weaker, filter-append}
 use Rattle.addr_translate.specs.Blocks.{Block}
 use Rattle.addr_translate.specs.Geometry.{Geometry, array_count}
 use Rattle.pkt_headers.specs.declared.packets.Packet.{Packet}
 use Rattle.task_filters.specs.Filters.{passes}
 use Rattle.sketch_defs.specs.Tasks.{Sketch}
-use Rattle.match_table.specs.declared.entries.Entry.{Entry}
 use Rattle.sketch_lower.specs.Lowering.{entry_of}
 use Rattle.switch_model.specs.Records.{Past, Part, Row, Record, Outline, outline, outlines, frozen_size}
-use Rattle.switch_model.specs.Sights.{Holding, live_holding, frozen_in, frozen_holding, held_in, held_by, all_held, Spot, before_of, spot_of, spots_from, spots_by, all_spots}
+use Rattle.switch_model.specs.Sights.{Holding, live_holding, frozen_in, frozen_holding, held_by, all_held, Spot, before_of, spot_of, spots_from, spots_by, all_spots}
 use Rattle.switch_model.specs.Soundness.{IsTask, IsRow, IsPartOf, size_of}
 use Rattle.switch_model.specs.Packets.{joined_part, joined, join, Stand, live_stand, live_stands, frozen_stand, frozen_stands, past_stands, stands_by, all_stands}
-use Rattle.switch_model.proofs.ListLemmas.{map_append, all_mapped}
+use Rattle.switch_model.proofs.ListLemmas.{map_append}
 
 -- ---- regions
 

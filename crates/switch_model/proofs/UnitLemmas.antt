@@ -1,23 +1,20 @@
 -- The units that give the key of a new row, among those that sound tasks use.
-use Rattle.std.proofs.Common.{inl, inr, ◌≡◌, ◌≢◌, ℕ, zero, suc, ◌+◌, ◌<◌, ◌≤◌, Bool, true, false, List, [], ◌∷◌, ◌++◌, length, get_or, map, position, refl, ap, ap₂, sym, ◌∙◌, subst, arith}
+use Rattle.std.proofs.Common.{inl, inr, ◌≡◌, ◌≢◌, ℕ, ◌<◌, ◌≤◌, true, false, List, [], ◌∷◌, length, get_or, refl, ap, sym, ◌∙◌, subst, arith}
 use Rattle.std.specs.Prelude.{◌⊎◌, Option, None, Some, IfSome, IsSome, IsTrue, is_some}
-use Rattle.std.specs.List.{All, AllPairs}
-use Rattle.std.specs.Str.{bytes_eq}
+use Rattle.std.specs.List.{All}
 use Rattle.std.proofs.lemmas.Bool.{false≢true, cases_lt}
 use Rattle.std.proofs.lemmas.List.{get_or_past}
-use Rattle.std.proofs.lemmas.List.Elements.{All-nil, All-cons, All-head, All-tail, All-map, All-weaker}
+use Rattle.std.proofs.lemmas.List.Elements.{All-nil, All-cons, All-weaker}
 use Rattle.std.proofs.lemmas.List.Quantifiers.{position-Some}
 use Rattle.addr_translate.specs.Geometry.{Geometry, group_in}
 use Rattle.key_mask.specs.Masks.{no_lengths}
 use Rattle.group_keys.specs.declared.uses.KeyUse.{KeyUse}
-use Rattle.group_keys.specs.declared.uses.KeyUse.TheVariants.{Single, Pair}
-use Rattle.group_keys.specs.Units.{UsedUnit, AreSound, IsUsed, DifferInMask, AreUnits, unit_at, has_mask, units_in, masks_xor_to, xor_to, keys_for, is_free}
-use Rattle.group_keys.proofs.UseLemmas.{Cases, of_found, keys_stand}
-use Rattle.switch_model.specs.Records.{UnitMask}
-use Rattle.switch_model.specs.Sights.{GroupUse, group_uses, unit_uses, used_from, units_from, units_on}
+use Rattle.group_keys.specs.Units.{UsedUnit, AreSound, IsUsed, DifferInMask, unit_at, has_mask, units_in, masks_xor_to, xor_to, keys_for, is_free}
+use Rattle.group_keys.proofs.UseLemmas.{of_found}
+use Rattle.switch_model.specs.Sights.{GroupUse, group_uses, units_on}
 use Rattle.switch_model.specs.Soundness.{GiveKey, AgreeOnUnits}
 use Rattle.switch_model.specs.Changes.{mask_in, masks_for}
-use Rattle.switch_model.proofs.ListLemmas.{Across, none_passes, pairs_map, pairs_mapped, length_map}
+use Rattle.switch_model.proofs.ListLemmas.{Across, none_passes}
 use Rattle.switch_model.proofs.IsolationLemmas.{same_bytes, bytes_same}
 use Rattle.switch_model.proofs.SightLemmas.{HasMask, UseOf, masks_known, use_of, agree_turned, unit_seen, length_units}
 
