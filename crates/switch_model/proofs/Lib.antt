@@ -1,5 +1,6 @@
 pub mod AddLemmas
 pub mod AnySizeLemmas
+pub mod BridgeLemmas
 pub mod CallLemmas
 pub mod ChainLemmas
 pub mod EditLemmas
