@@ -13,3 +13,5 @@ mod Uses
 mod Served
 mod Counts
 mod Bounds
+pub mod BridgeFinds
+pub mod BridgeCalls

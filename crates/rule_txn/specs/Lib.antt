@@ -4,3 +4,4 @@ pub mod Switch
 pub mod Changes
 pub mod Fills
 pub mod Stages
+pub mod Seen
