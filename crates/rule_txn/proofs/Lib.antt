@@ -15,3 +15,4 @@ mod Counts
 mod Bounds
 pub mod BridgeFinds
 pub mod BridgeCalls
+pub mod BridgeLemmas
