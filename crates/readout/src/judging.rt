@@ -13,9 +13,11 @@ use sketch_defs::{Kind, Name};
 use task_filters::Filter;
 
 /// The place of the live task of this name.
+#[tactic(auto, using(crate::proofs::PlacedTaskLemmas::part_at, crate::proofs::PlacedTaskLemmas::found_at, crate::proofs::PlacedTaskLemmas::found_below))]
 fn find_task<V: TaskView>(view: &V, name: &Name) -> Option<usize>
     ensures found { (told : Contents) → part_named name.now (parts_in told (V.seen view.now))
         ≡ option_map (λ at. part_in told (task_in (V.seen view.now) at)) result }
+    ensures named { task_named name.now (V.seen view.now) ≡ option_map (task_in (V.seen view.now)) result }
     ensures below { IfSome result (λ at. at < length (V.seen view.now).tasks) }
 {
     view.find(name)
@@ -36,7 +38,9 @@ pub(crate) fn judge_cells<V: TaskView>(
     ensures refused { IfErr result (λ refusal. (told : Contents) →
         answer_by name.now (lines_of_cells side) (parts_in told (V.seen view.now)) ≡ Err refusal) }
 {
-    let at = find_task(view, name).ok_or(Refusal::Unknown)?;
+    let Some(at) = find_task(view, name) else {
+        return Err(Refusal::Unknown);
+    };
     match side {
         Side::Live => Ok(at),
         Side::Frozen if is_frozen(view, at) => Ok(at),
@@ -68,7 +72,9 @@ pub(crate) fn judge_query<V: TaskView>(
     ensures refused { IfErr result (λ refusal. (hash_key : List ℕ) (told : Contents) →
         answer_by name.now (line_of_query hash_key at.now) (parts_in told (V.seen view.now)) ≡ Err refusal) }
 {
-    let number = find_task(view, name).ok_or(Refusal::Unknown)?;
+    let Some(number) = find_task(view, name) else {
+        return Err(Refusal::Unknown);
+    };
     let task = view.task(number);
     if let Kind::Mrac | Kind::Hll = task.kind() {
         return Err(Refusal::NoAnswer);
@@ -89,7 +95,9 @@ pub(crate) fn judge_dist<V: TaskView>(view: &V, name: &Name) -> Result<usize, Re
     ensures refused { IfErr result (λ refusal. (told : Contents) →
         answer_by name.now lines_of_dist (parts_in told (V.seen view.now)) ≡ Err refusal) }
 {
-    let at = find_task(view, name).ok_or(Refusal::Unknown)?;
+    let Some(at) = find_task(view, name) else {
+        return Err(Refusal::Unknown);
+    };
     match view.task(at).kind() {
         Kind::Mrac => Ok(at),
         _ => Err(Refusal::NoAnswer),
@@ -105,7 +113,9 @@ pub(crate) fn judge_card<V: TaskView>(view: &V, name: &Name) -> Result<usize, Re
     ensures refused { IfErr result (λ refusal. (told : Contents) →
         answer_by name.now line_of_card (parts_in told (V.seen view.now)) ≡ Err refusal) }
 {
-    let at = find_task(view, name).ok_or(Refusal::Unknown)?;
+    let Some(at) = find_task(view, name) else {
+        return Err(Refusal::Unknown);
+    };
     match view.task(at).kind() {
         Kind::Hll => Ok(at),
         _ => Err(Refusal::NoAnswer),
