@@ -5,3 +5,4 @@ mod DistLemmas
 mod PieceLemmas
 mod PlacedTaskLemmas
 mod QueryLemmas
+mod ShowLemmas
