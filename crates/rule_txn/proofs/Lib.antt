@@ -16,3 +16,5 @@ mod Bounds
 pub mod BridgeFinds
 pub mod BridgeCalls
 pub mod BridgeLemmas
+pub mod ShownRows
+pub mod ShownLemmas
