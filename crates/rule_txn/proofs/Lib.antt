@@ -18,3 +18,4 @@ pub mod BridgeCalls
 pub mod BridgeLemmas
 pub mod ShownRows
 pub mod ShownLemmas
+pub mod BridgeChanges

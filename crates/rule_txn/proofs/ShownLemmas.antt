@@ -1,12 +1,15 @@
 -- The view that a switch shows fits together, and over registers that stand for tasks it shows their parts.
-use Rattle.std.proofs.Common.{◌≡◌, ℕ, suc, ◌+◌, ◌^◌, ◌<◌, ◌≤◌, ◌==◌, ◌&&◌, Bool, true, false, List, [], ◌∷◌, ◌++◌, length, map, refl, ap, ap₂, sym, ◌∙◌, subst, arith}
-use Rattle.std.specs.Prelude.{nat_le, cond, Option, None, Some, IfSome, IsSome, option_map, unwrap_or}
+use Rattle.std.proofs.Common.{◌≡◌, ℕ, ◌^◌, ◌<◌, ◌≤◌, ◌&&◌, Bool, true, false, List, [], ◌∷◌, length, get_or, map, refl, ap, ap₂, sym, ◌∙◌, subst, arith, inl, inr}
+use Rattle.std.specs.Prelude.{◌⊎◌, nat_le, cond, Option, None, Some, IfSome, IsSome, option_map, unwrap_or}
 use Rattle.std.specs.Str.{bytes_eq}
 use Rattle.std.specs.List.{All, find, flat_map, range_with_len}
+use Rattle.std.proofs.Math.Pow.{pow-lt}
+use Rattle.std.proofs.lemmas.Bool.{cases_lt}
 use Rattle.std.proofs.lemmas.Bool.Decides.{nat_tests}
 use Rattle.std.proofs.lemmas.List.Elements.{All-nil, All-cons, All-head, All-tail, All-map, All-weaker}
 use Rattle.addr_translate.specs.Blocks.{Block}
-use Rattle.addr_translate.specs.Geometry.{Geometry, greatest_bits}
+use Rattle.addr_translate.specs.Geometry.{Geometry, bits_of, greatest_bits}
+use Rattle.addr_translate.proofs.GeometryLemmas.{bits_within}
 use Rattle.pkt_headers.specs.declared.packets.Packet.{Packet}
 use Rattle.reg_file.specs.Registers.{Contents}
 use Rattle.sketch_defs.specs.declared.kinds.Kind.{Kind}
@@ -27,7 +30,7 @@ use Rattle.readout.specs.declared.views.Placed.{Placed}
 use Rattle.readout.specs.declared.views.Side.TheVariants.{Live, Frozen}
 use Rattle.readout.specs.Parts.{Rows, SketchPart}
 use Rattle.readout.specs.Answers.{part_named}
-use Rattle.readout.specs.PlacedTasks.{rows_of_side, PlacedTask, View, IsPlaced, IsPlacedTask, IsFit, LiesIn, AreWithin, live_bits, frozen_bits, frozen_bits_in, row_contents, rows_contents, part_in, parts_in}
+use Rattle.readout.specs.PlacedTasks.{no_place, place_at, rows_of_side, PlacedTask, View, IsPlaced, IsPlacedTask, IsFit, LiesIn, AreWithin, live_bits, frozen_bits, frozen_bits_in, row_contents, rows_contents, part_in, parts_in}
 use Rattle.rule_txn.specs.Switch.{SwitchState}
 use Rattle.rule_txn.specs.Seen.{StandsFor, placed_row, placed_task, view_of, bits_in, rows_shown, past_shown, part_shown, parts_shown}
 use Rattle.rule_txn.proofs.ShownRows.{same_power, bits_are, whole_rows, LiveBits, live_reads, FrozenBits, frozen_reads}
@@ -212,3 +215,30 @@ named_seen hash_key name (r ∷ rs) = by (bytes_eq r.part.task.name name) (named
       ≡ option_map (part_shown hash_key) (option_map (λ (r : Record). r.part) (cond b (Some r) (find (has_name name) rs)))
   by true rest = refl
   by false rest = rest
+
+-- ---- room for a row
+
+fits_within : (geometry : Geometry) (bits array : ℕ) (region : Block) → LiesIn geometry array region → region.bits ≡ bits → bits ≤ greatest_bits geometry
+fits_within geometry bits array region lies is = by (cases_lt (greatest_bits geometry) bits) where
+  by : (greatest_bits geometry < bits) ⊎ (bits ≤ greatest_bits geometry) → bits ≤ greatest_bits geometry
+  by (inr le) = le
+  by (inl less) =
+      let wide : 2 ^ bits_of geometry array < 2 ^ bits = pow-lt (let most = bits_within geometry array in omega arith) in
+      let same : 2 ^ region.bits ≡ 2 ^ bits = ap (λ b. 2 ^ b) is in
+      absurd (omega (arith, lies, wide, same))
+
+-- no row of a view that fits has more cells than the largest array has registers
+pub fit_within : (geometry : Geometry) (tasks : List PlacedTask) → All (IsPlacedTask geometry) tasks → All (λ placed. 1 ≤ placed.task.rows) tasks
+    → All (λ placed. live_bits placed ≤ greatest_bits geometry) tasks
+fit_within geometry tasks fit some k d within =
+    let placed : PlacedTask = get_or tasks k d in
+    let is : IsPlacedTask geometry placed = fit k d within in
+    let one : IsPlaced geometry (live_bits placed) (frozen_bits placed) (place_at placed 0) =
+    is.places 0 no_place (omega (arith, is.rows, some k d within)) in
+    fits_within geometry (live_bits placed) (place_at placed 0).array (place_at placed 0).region one.region one.bits_are
+
+pub view_within : (state : SwitchState) → Sound state.geometry state.outlines → AreWithin (greatest_bits state.geometry) (view_of state)
+view_within state sound =
+    fit_within state.geometry (map placed_task state.outlines) (view_fits state sound)
+    (All-map (λ (placed : PlacedTask). 1 ≤ placed.task.rows) placed_task state.outlines
+    (All-weaker (IsTask state.geometry) (λ (o : Outline). 1 ≤ o.task.rows) (λ o is. some_rows o.task is.allowed) state.outlines sound.tasks))

@@ -1,5 +1,5 @@
 -- What a switch shows: the tasks and packets that registers stand for, and what read-outs see of it.
-use Rattle.std.specs.Prelude.{◌≡◌, ℕ, ◌+◌, ◌^◌, ◌==◌, List, map, count_by, Option, option_map, unwrap_or}
+use Rattle.std.specs.Prelude.{◌≡◌, ℕ, ◌^◌, ◌==◌, List, map, count_by, Option, option_map, unwrap_or, Result, Ok, Err}
 use Rattle.std.specs.List.{find, flat_map, range_with_len}
 use Rattle.outside.specs.Told.{Told, Grows}
 use Rattle.addr_translate.specs.Geometry.{Geometry, bits_of, least_bits_of}
@@ -14,6 +14,7 @@ use Rattle.sketch_defs.specs.Tasks.{Sketch}
 use Rattle.switch_model.specs.Records.{Past, Part, Row, Record, Outline, outlines}
 use Rattle.switch_model.specs.Sights.{all_held, all_uses, taken_on, units_on}
 use Rattle.switch_model.specs.Soundness.{Sound}
+use Rattle.switch_model.specs.Changes.{Change, changed}
 use Rattle.switch_model.specs.Packets.{join, calls_of, Layout}
 use Rattle.readout.specs.declared.views.Placed.{Placed}
 use Rattle.readout.specs.Parts.{Rows, SketchPart}
@@ -83,3 +84,10 @@ part_shown hash_key part = record {
 -- what read-outs see of these tasks, after their packets
 abbrev pub parts_shown : List ℕ → List Record → List SketchPart
 parts_shown hash_key records = map (λ (r : Record). part_shown hash_key r.part) records
+
+-- ---- changes
+
+-- the tasks with their packets after a change that was made; one that was refused leaves them as they were
+abbrev pub records_after : {T F : Type 0} → Result T F → Geometry → Change → List Record → List Record
+records_after (Ok t) geometry change records = changed geometry records change
+records_after (Err fault) geometry change records = records
