@@ -12,3 +12,4 @@ mod Uses
 mod Served
 mod Counts
 mod Bounds
+mod Enters
