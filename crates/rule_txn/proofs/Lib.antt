@@ -13,3 +13,5 @@ mod Served
 mod Counts
 mod Bounds
 mod Enters
+mod Giving
+mod Adds
