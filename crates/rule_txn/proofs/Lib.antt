@@ -15,3 +15,5 @@ mod Bounds
 mod Enters
 mod Giving
 mod Adds
+mod Removed
+mod Resizes
