@@ -17,3 +17,5 @@ mod Giving
 mod Adds
 mod Removed
 mod Resizes
+mod Refilled
+mod Added
