@@ -19,3 +19,10 @@ pub mod BridgeLemmas
 pub mod ShownRows
 pub mod ShownLemmas
 pub mod BridgeChanges
+mod Enters
+mod Giving
+mod Adds
+mod Removed
+mod Resizes
+mod Refilled
+mod Added
