@@ -2,6 +2,7 @@ mod StagePlans
 mod StageSeats
 mod StageFills
 mod StageLeases
+mod StageStarts
 mod Tasks
 mod Keys
 mod Places
@@ -26,3 +27,6 @@ mod Removed
 mod Resizes
 mod Refilled
 mod Added
+mod LookViews
+mod LookRows
+mod LookStarts

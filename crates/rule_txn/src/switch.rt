@@ -12,6 +12,10 @@ ghost use Rattle.rule_txn.specs.Switch.{SwitchState};
 ghost use Rattle.rule_txn.specs.Changes.{Answers, add_cause, resize_cause, remove_cause, release_cause};
 ghost use Rattle.rule_txn.specs.Fills.{Refills};
 
+mod looking;
+mod starting;
+mod view;
+
 use crate::faults::{AddFault, ReleaseFault, ResizeFault, StartFail, Unknown};
 use crate::rows::{Kept, arrays_in, copy_of, place_of, put_at, thaw_rows, with_size};
 use crate::seats::arrays_of;

@@ -1,0 +1,2 @@
+-- Rows that are there.
+use Rattle.std.proofs.Common.{◌≡◌, ℕ}

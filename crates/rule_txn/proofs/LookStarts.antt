@@ -1,0 +1,2 @@
+-- A switch that begins, and one that ends.
+use Rattle.std.proofs.Common.{◌≡◌, ℕ}

@@ -1,0 +1,2 @@
+-- What the view of a switch shows.
+use Rattle.std.proofs.Common.{◌≡◌, ℕ}
