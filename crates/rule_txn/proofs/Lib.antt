@@ -28,5 +28,4 @@ mod Resizes
 mod Refilled
 mod Added
 mod LookViews
-mod LookRows
 mod LookStarts

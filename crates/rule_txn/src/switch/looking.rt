@@ -3,7 +3,7 @@ ghost use Rattle.std.specs.Prelude.{◌≡◌, ◌<◌, ◌≤◌, ◌^◌, leng
 ghost use Rattle.outside.specs.Faults.{HasCause};
 ghost use Rattle.addr_translate.specs.Geometry.{IsGeometry, array_count, greatest_bits};
 ghost use Rattle.reg_file.specs.Reads.{OnlyReads};
-ghost use Rattle.pipe_core.specs.Rules.{IsShaped};
+ghost use Rattle.pipe_core.specs.Rules.{IsPipe, IsShaped};
 ghost use Rattle.readout.specs.PlacedTasks.{task_in, place_in, no_place, block_of, HasSide, IsFit, AreWithin, register_at};
 ghost use Rattle.switch_model.specs.Sights.{all_held, all_spots, all_uses};
 ghost use Rattle.switch_model.specs.Soundness.{Sound};
@@ -29,7 +29,7 @@ impl Switch {
         ensures dims { R.dims regs.new ≡ R.dims regs.old }
         ensures over { PassesOver self.now packet.now (R.contents regs.old) (R.contents regs.new) (R.calls regs.old) (R.calls regs.new) }
     {
-        self.stage.pipe().step(packet, regs);
+        self.pipe().step(packet, regs);
     }
 
     /// What arrays and units there are. They never change.
@@ -62,12 +62,16 @@ impl Switch {
 
     /// The tables of all arrays, and the units of all groups.
     pub fn pipe(&self) -> &Pipe
+        ensures whole { IsPipe result.now }
         ensures geometry { result.now.geometry ≡ self.now.geometry }
         ensures hash_key { result.now.hash_key ≡ self.now.hash_key }
         ensures tables { map placed_table result.now.tables ≡ tables_for self.now.geometry (all_spots self.now.outlines) }
         ensures groups { result.now.groups ≡ groups_for self.now.geometry (all_uses self.now.geometry self.now.outlines) }
     {
-        self.stage.pipe()
+        let pipe = self.stage.pipe();
+        // For its clause `whole`.
+        let _ = pipe.shape();
+        pipe
     }
 
     /// The pool of an array.

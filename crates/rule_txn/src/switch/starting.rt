@@ -1,16 +1,14 @@
 //! A switch that begins, and one that ends.
-ghost use Rattle.std.specs.Prelude.{◌≡◌, ◌≤◌, ◌⊎◌, [], IfOk, IfSome, OnOk, IsErrOf};
+ghost use Rattle.std.specs.Prelude.{◌≡◌, ◌≤◌, [], IfOk, IfSome, OnOk, IsErrOf};
 ghost use Rattle.outside.specs.Faults.{Rose};
 ghost use Rattle.outside.specs.Told.{Told};
 ghost use Rattle.reg_file.specs.Registers.{AreZero};
-ghost use Rattle.addr_translate.specs.Geometry.{IsGeometry};
 ghost use Rattle.pipe_core.specs.Rules.{IsShaped};
 ghost use Rattle.rule_txn.specs.Switch.{SwitchState, most_records};
 ghost use Rattle.rule_txn.specs.Seen.{StandsFor};
 
 use super::Switch;
 use crate::faults::StartFail;
-use crate::rows::Kept;
 use crate::stage::Stage;
 use addr_translate::Shape;
 use hash_units::HashKey;
@@ -73,16 +71,11 @@ impl Switch {
         let mut records = records;
         let mut stage = stage;
         'records: while let Some(kept) = records.pop() {
-            clear(&mut stage, kept);
+            let (_task, _size, rows) = kept.apart();
+            let frozen = stage.clear_all(rows);
+            stage.give_frozen_all(frozen);
         }
         records.destroy_empty();
         stage.close();
     }
-}
-
-/// Takes a task's rows away, with their live and frozen leases.
-fn clear(stage: &mut Stage, kept: Kept) {
-    let (_task, _size, rows) = kept.apart();
-    let frozen = stage.clear_all(rows);
-    stage.give_frozen_all(frozen);
 }

@@ -1,2 +1,0 @@
--- Rows that are there.
-use Rattle.std.proofs.Common.{◌≡◌, ℕ}
