@@ -3,12 +3,14 @@ use Rattle.std.proofs.Common.{◌≡◌, ℕ, zero, suc, ◌+◌, ◌<◌, ◌�
 use Rattle.std.specs.Prelude.{Option, None, Some, IfSome, unwrap_or, count_by, position}
 use Rattle.std.specs.List.{flat_map, range_with_len}
 use Rattle.std.proofs.lemmas.List.Elements.{filter-append}
+use Rattle.std.proofs.lemmas.List.Sums.{length-filter}
 use Rattle.std.proofs.lemmas.List.FromFn.{length-map-range_with_len}
 use Rattle.std.proofs.Math.Pow.{pow_mono}
 use Rattle.outside.specs.Told.{Told}
 use Rattle.addr_translate.specs.Blocks.{Block}
 use Rattle.addr_translate.specs.Geometry.{Geometry, IsGeometry, array_count, bits_of, greatest_bits, group_in}
 use Rattle.addr_translate.proofs.GeometryLemmas.{bits_within, greatest_at_most}
+use Rattle.partition_pool.specs.Pools.{PoolState}
 use Rattle.group_keys.specs.Units.{UsedUnit}
 use Rattle.match_table.specs.Tables.{EntryTable}
 use Rattle.match_table.proofs.ChangeLemmas.{length_sorted}
@@ -20,7 +22,7 @@ use Rattle.pipe_core.specs.Rules.{Rules, IsPipe, IsShaped, rules_of, table_at, u
 use Rattle.pipe_core.specs.Flow.{calls_over}
 use Rattle.sketch_defs.specs.Tasks.{Sketch}
 use Rattle.switch_model.specs.Records.{Row, Outline}
-use Rattle.switch_model.specs.Sights.{GroupUse, spots_from, spots_by, all_held, all_spots, all_uses, rules_on, units_on, starts_before, used_from, unit_uses, group_uses}
+use Rattle.switch_model.specs.Sights.{Holding, GroupUse, spots_from, spots_by, all_held, all_spots, all_uses, rules_on, units_on, starts_before, used_from, unit_uses, group_uses}
 use Rattle.switch_model.specs.Soundness.{Sound}
 use Rattle.switch_model.specs.Changes.{is_called}
 use Rattle.switch_model.proofs.ListLemmas.{length_map, mapped_position}
@@ -30,7 +32,7 @@ use Rattle.readout.specs.declared.views.Side.TheVariants.{Live, Frozen}
 use Rattle.readout.specs.PlacedTasks.{PlacedTask, IsPlaced, IsPlacedTask, LiesIn, no_place, no_task, no_placed_task, task_in, place_in, block_of, live_bits, frozen_bits, is_named}
 use Rattle.rule_txn.specs.State.{State}
 use Rattle.rule_txn.specs.Rows.{Groups}
-use Rattle.rule_txn.specs.Switch.{SwitchState, pools_for, placed_table, table_for, tables_for, groups_for}
+use Rattle.rule_txn.specs.Switch.{SwitchState, pool_for, pools_for, placed_table, table_for, tables_for, groups_for}
 use Rattle.rule_txn.specs.Seen.{PassesOver, placed_row, placed_task, rows_on, view_of}
 use Rattle.rule_txn.proofs.Places.{at_range, get_or-map}
 use Rattle.rule_txn.proofs.Tables.{table_is, count_append}
@@ -38,9 +40,6 @@ use Rattle.rule_txn.proofs.ShownLemmas.{view_fits}
 use Rattle.rule_txn.proofs.BridgeLemmas.{rules_in, packet_stands}
 
 -- ---- tasks and rows
-
-no_outline : Outline
-no_outline = record { task = no_task; frozen = None; rows = [] }
 
 pub rows_at : (os : List Outline) (at : ℕ) (o : Outline) → at < length os → ((d : Outline) → o ≡ get_or os at d)
     → (get_or (map placed_task os) at no_placed_task) ≡ placed_task o
@@ -50,10 +49,15 @@ rows_at os at o within is =
 pub named_at : (name : List ℕ) (os : List Outline) → position (is_called name) os ≡ position (is_named name) (map placed_task os)
 named_at name os = sym (mapped_position (is_named name) placed_task os)
 
--- ---- live rows
+-- ---- pools
 
-on_array : ℕ → Row → Bool
-on_array array row = row.array == array
+pub pool_is : (geometry : Geometry) (held : List Holding) (pools : List PoolState) (array : ℕ) (pool : PoolState) → pool ≡ get_or pools array pool
+    → pools ≡ pools_for geometry held → array < array_count geometry → pool ≡ pool_for geometry held array
+unfolding pools_for
+pool_is geometry held pools array pool is e within =
+    is ∙ ap (λ ps. get_or ps array pool) e ∙ at_range pool (pool_for geometry held) (array_count geometry) array within
+
+-- ---- live rows
 
 own_rows : (task : Sketch) (i : ℕ) (before : Option ℕ) (rows : List Row) (array : ℕ)
     → length (rules_on (spots_from task i before rows) array) ≡ length (filter (λ (row : Row). row.array == array) rows)
@@ -84,7 +88,15 @@ entries_are_rows geometry os tables array e within =
     ∙ ap (λ (t : EntryTable). length t.entries) (table_is geometry (all_spots os) tables array e within)
     ∙ length_sorted starts_before (rules_on (all_spots os) array)
     ∙ all_rows os array
-    ∙ ?
+    ∙ length-filter (λ (row : Row). row.array == array) (flat_map (λ (o : Outline). o.rows) os)
+
+-- and few
+pub few_entries : (rules : Rules) (array n : ℕ) → IsPipe rules → array < array_count rules.geometry
+    → n ≤ (table_at rules.tables array).room → n ≤ 1024
+few_entries rules array n pipe within few =
+    let room = pipe.rooms array (omega (arith, pipe.tables, within)) in
+    let most : 2 ^ rules.geometry.split ≤ 2 ^ 10 = pow_mono pipe.geometry.most_split in
+    omega (arith, room, most, few)
 
 -- ---- units
 
