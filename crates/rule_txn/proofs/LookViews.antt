@@ -120,7 +120,7 @@ lies geometry bits frozen place Frozen is = by place.frozen is.frozen_region whe
   by None none = is.region
   by (Some region) lies = lies
 
-placed_at : (state : SwitchState) (at row : ℕ) → Sound state.geometry state.outlines → at < length state.outlines
+pub placed_at : (state : SwitchState) (at row : ℕ) → Sound state.geometry state.outlines → at < length state.outlines
     → row < length (task_in (view_of state) at).places
     → IsPlaced state.geometry (live_bits (task_in (view_of state) at)) (frozen_bits (task_in (view_of state) at)) (place_in (view_of state) at row)
 placed_at state at row sound exists within =
@@ -128,25 +128,19 @@ placed_at state at row sound exists within =
     view_fits state sound at no_placed_task (subst (λ n. at < n) (sym (length_map placed_task state.outlines)) exists) in
     is.places row no_place within
 
-pub cell_in : (state : SwitchState) (dims : Dims) (at row index : ℕ) (side : Side) → Sound state.geometry state.outlines
-    → IsShaped state.geometry dims → at < length state.outlines → row < length (task_in (view_of state) at).places
-    → index < 2 ^ (block_of side (place_in (view_of state) at row)).bits
-    → InFile dims (place_in (view_of state) at row).array ((block_of side (place_in (view_of state) at row)).base + index)
-cell_in state dims at row index side sound shaped exists within inside =
-    let view = view_of state in
-    let place : Placed = place_in view at row in
-    let one = placed_at state at row sound exists within in
-    let in_array : LiesIn state.geometry place.array (block_of side place) =
-    lies state.geometry (live_bits (task_in view at)) (frozen_bits (task_in view at)) place side one in
-    let most : 2 ^ bits_of state.geometry place.array ≤ 2 ^ greatest_bits state.geometry = pow_mono (bits_within state.geometry place.array) in
-    let same : 2 ^ dims.bits ≡ 2 ^ greatest_bits state.geometry = ap (λ b. 2 ^ b) shaped.bits in
+-- the register of a row's partition is there
+pub cell_in : (geometry : Geometry) (dims : Dims) (bits : ℕ) (frozen : Option ℕ) (place : Placed) (side : Side) (index : ℕ) → IsPlaced geometry bits frozen place
+    → IsShaped geometry dims → index < 2 ^ (block_of side place).bits → InFile dims place.array ((block_of side place).base + index)
+cell_in geometry dims bits frozen place side index one shaped inside =
+    let in_array : LiesIn geometry place.array (block_of side place) = lies geometry bits frozen place side one in
+    let most : 2 ^ bits_of geometry place.array ≤ 2 ^ greatest_bits geometry = pow_mono (bits_within geometry place.array) in
+    let same : 2 ^ dims.bits ≡ 2 ^ greatest_bits geometry = ap (λ b. 2 ^ b) shaped.bits in
     record { in_arrays = omega (arith, one.array, shaped.arrays); in_array = omega (arith, in_array, most, same, inside) }
 
-pub cell_small : (state : SwitchState) (dims : Dims) (array addr : ℕ) → IsGeometry state.geometry → IsShaped state.geometry dims → InFile dims array addr
-    → addr < 2 ^ 20
-cell_small state dims array addr good shaped is =
-    let most : 2 ^ greatest_bits state.geometry ≤ 2 ^ 20 = pow_mono (greatest_at_most state.geometry good) in
-    let same : 2 ^ dims.bits ≡ 2 ^ greatest_bits state.geometry = ap (λ b. 2 ^ b) shaped.bits in
+pub cell_small : (geometry : Geometry) (dims : Dims) (array addr : ℕ) → IsGeometry geometry → IsShaped geometry dims → InFile dims array addr → addr < 2 ^ 20
+cell_small geometry dims array addr good shaped is =
+    let most : 2 ^ greatest_bits geometry ≤ 2 ^ 20 = pow_mono (greatest_at_most geometry good) in
+    let same : 2 ^ dims.bits ≡ 2 ^ greatest_bits geometry = ap (λ b. 2 ^ b) shaped.bits in
     omega (arith, is.in_array, most, same)
 
 -- ---- a packet

@@ -4,7 +4,7 @@ ghost use Rattle.outside.specs.Faults.{HasCause};
 ghost use Rattle.addr_translate.specs.Geometry.{IsGeometry, array_count, greatest_bits};
 ghost use Rattle.reg_file.specs.Reads.{OnlyReads};
 ghost use Rattle.pipe_core.specs.Rules.{IsPipe, IsShaped};
-ghost use Rattle.readout.specs.PlacedTasks.{task_in, place_in, no_place, block_of, HasSide, IsFit, AreWithin, register_at};
+ghost use Rattle.readout.specs.PlacedTasks.{task_in, place_in, no_place, live_bits, frozen_bits, IsPlaced, block_of, HasSide, IsFit, AreWithin, register_at};
 ghost use Rattle.switch_model.specs.Sights.{all_held, all_spots, all_uses};
 ghost use Rattle.switch_model.specs.Soundness.{Sound};
 ghost use Rattle.rule_txn.specs.State.{there};
@@ -55,7 +55,10 @@ impl Switch {
     pub fn placed(&self, at: usize, row: u32) -> Placed
         requires task { at < length self.now.outlines }
         requires row { row < length (task_in (view_of self.now) at).places }
-        ensures { result ≡ place_in (view_of self.now) at row }
+        ensures value { result ≡ place_in (view_of self.now) at row }
+        ensures stands { let placed = task_in (view_of self.now) at in
+            IsPlaced self.now.geometry (live_bits placed) (frozen_bits placed) (place_in (view_of self.now) at row) }
+        ensures limits { IsGeometry self.now.geometry }
     {
         place_among(self.records[at].rows(), row)
     }

@@ -1,5 +1,5 @@
 -- The last task goes first, and what it held is given back.
-use Rattle.std.proofs.Common.{◌≡◌, ℕ, List, [], ◌∷◌, ◌++◌, ap, sym, ◌∙◌, subst, append-nil}
+use Rattle.std.proofs.Common.{◌≡◌, ℕ, ◌-◌, take, List, [], ◌∷◌, ◌++◌, ap, sym, ◌∙◌, subst, append-nil}
 use Rattle.std.specs.Prelude.{Option, None, Some}
 use Rattle.switch_model.specs.Records.{Outline, Row}
 use Rattle.switch_model.specs.Soundness.{Sound}
@@ -59,4 +59,8 @@ records-preserved c =
       stands = subst (λ (s : State). Stands items s) (sym end) one.stands }
 
 pub close-requires : goal.close-requires
-close-requires c = ?
+close-requires c =
+    let none : c.records.records.items ≡ [] =
+      c.in_default.ensures.items ∙ append-nil c.pop.new.self.items
+      ∙ c.pop.ensures.rest ∙ ap (λ (n : ℕ). take (n - 1) c.records.records.items) c.in_default.ensures.cases.0 in
+    all_given c.records.records.items c.records.stage none c.records.invariant.stands
