@@ -1,5 +1,5 @@
 -- A switch that begins, and one that ends.
-use Rattle.std.proofs.Common.{◌≡◌, ℕ, ◌≤◌, List, [], ◌∷◌, ◌++◌, refl, ap, sym, ◌∙◌, subst, append-nil}
+use Rattle.std.proofs.Common.{◌≡◌, ℕ, ◌≤◌, List, [], ◌∷◌, ◌++◌, sym, subst, append-nil}
 use Rattle.std.specs.Prelude.{Option, None, Some, IfSome}
 use Rattle.std.specs.List.{All}
 use Rattle.std.proofs.lemmas.List.Elements.{All-nil}
@@ -14,7 +14,7 @@ use Rattle.switch_model.proofs.SoundLemmas.{none_sound}
 use Rattle.switch_model.proofs.EditLemmas.{sound_dropped}
 use Rattle.rule_txn.specs.State.{State, there}
 use Rattle.rule_txn.specs.Rows.{given, frozens, lives, less_rows, less_uses}
-use Rattle.rule_txn.specs.Switch.{SwitchState, IsSwitch, Stands, most_records, pools_for, first_state}
+use Rattle.rule_txn.specs.Switch.{SwitchState, IsSwitch, Stands, most_records, first_state}
 use Rattle.rule_txn.specs.Seen.{StandsFor}
 use Rattle.rule_txn.proofs.Removed.{Removes, removes}
 use Rattle.rule_txn.proofs.StageStarts.{stands_first, none_taken}
@@ -39,7 +39,8 @@ pub record Goes (front : List Outline) (state : State) (slots : List (Option Row
   pub stands : Stands front (record state {
     pools = given (frozens slots) (given (lives slots) state.pools);
     tables = less_rows state.tables slots;
-    groups = less_uses state.geometry state.groups slots })
+    groups = less_uses state.geometry state.groups slots;
+  })
 
 pub goes : (front : List Outline) (o : Outline) (os : List Outline) (state : State) (slots : List (Option Row)) → os ≡ front ++ o ∷ []
     → Sound state.geometry os → Stands os state → there slots ≡ o.rows → Goes front state slots
@@ -49,7 +50,8 @@ goes front o os state slots last sound stands rows =
     let after : State = record state {
       pools = given (frozens slots) (given (lives slots) state.pools);
       tables = less_rows state.tables slots;
-      groups = less_uses state.geometry state.groups slots } in
+      groups = less_uses state.geometry state.groups slots;
+    } in
     record {
       sound = subst (Sound state.geometry) (append-nil front) (sound_dropped state.geometry front [] o now);
       removes = gone;

@@ -1,17 +1,15 @@
 -- What the view of a switch shows, by its pools, tables and units.
-use Rattle.std.proofs.Common.{◌≡◌, ℕ, zero, suc, ◌+◌, ◌<◌, ◌≤◌, ◌^◌, ◌==◌, Bool, true, false, cond, List, [], ◌∷◌, ◌++◌, length, get_or, map, filter, refl, ap, ap₂, sym, ◌∙◌, subst, arith, length-append}
-use Rattle.std.specs.Prelude.{Option, None, Some, IfSome, unwrap_or, count_by, position}
-use Rattle.std.specs.List.{flat_map, range_with_len}
+use Rattle.std.proofs.Common.{◌≡◌, ℕ, ◌+◌, ◌<◌, ◌≤◌, ◌^◌, ◌==◌, Bool, true, false, List, [], ◌∷◌, length, get_or, map, filter, refl, ap, ap₂, sym, ◌∙◌, subst, arith, length-append}
+use Rattle.std.specs.Prelude.{Option, None, Some, IfSome, unwrap_or, position}
+use Rattle.std.specs.List.{flat_map}
 use Rattle.std.proofs.lemmas.List.Elements.{filter-append}
 use Rattle.std.proofs.lemmas.List.Sums.{length-filter}
 use Rattle.std.proofs.lemmas.List.FromFn.{length-map-range_with_len}
 use Rattle.std.proofs.Math.Pow.{pow_mono}
-use Rattle.outside.specs.Told.{Told}
 use Rattle.addr_translate.specs.Blocks.{Block}
 use Rattle.addr_translate.specs.Geometry.{Geometry, IsGeometry, array_count, bits_of, greatest_bits, group_in}
 use Rattle.addr_translate.proofs.GeometryLemmas.{bits_within, greatest_at_most}
 use Rattle.partition_pool.specs.Pools.{PoolState}
-use Rattle.group_keys.specs.Units.{UsedUnit}
 use Rattle.match_table.specs.Tables.{EntryTable}
 use Rattle.match_table.proofs.ChangeLemmas.{length_sorted}
 use Rattle.pkt_headers.specs.declared.packets.Packet.{Packet}
@@ -29,11 +27,11 @@ use Rattle.switch_model.proofs.ListLemmas.{length_map, mapped_position}
 use Rattle.readout.specs.declared.views.Placed.{Placed}
 use Rattle.readout.specs.declared.views.Side.{Side}
 use Rattle.readout.specs.declared.views.Side.TheVariants.{Live, Frozen}
-use Rattle.readout.specs.PlacedTasks.{PlacedTask, IsPlaced, IsPlacedTask, LiesIn, no_place, no_task, no_placed_task, task_in, place_in, block_of, live_bits, frozen_bits, is_named}
+use Rattle.readout.specs.PlacedTasks.{IsPlaced, IsPlacedTask, LiesIn, no_place, no_task, no_placed_task, task_in, place_in, block_of, live_bits, frozen_bits, is_named}
 use Rattle.rule_txn.specs.State.{State}
 use Rattle.rule_txn.specs.Rows.{Groups}
-use Rattle.rule_txn.specs.Switch.{SwitchState, pool_for, pools_for, placed_table, table_for, tables_for, groups_for}
-use Rattle.rule_txn.specs.Seen.{PassesOver, placed_row, placed_task, rows_on, view_of}
+use Rattle.rule_txn.specs.Switch.{SwitchState, pool_for, pools_for, placed_table, tables_for, groups_for}
+use Rattle.rule_txn.specs.Seen.{PassesOver, placed_task, rows_on, view_of}
 use Rattle.rule_txn.proofs.Places.{at_range, get_or-map}
 use Rattle.rule_txn.proofs.Tables.{table_is, count_append}
 use Rattle.rule_txn.proofs.ShownLemmas.{view_fits}
@@ -157,9 +155,10 @@ packet_over now rules packet contents new_contents list new_list e f tables grou
       hash_key = now.hash_key;
       pools = pools_for now.geometry (all_held now.outlines);
       tables = rules.tables;
-      groups = rules.groups } in
+      groups = rules.groups;
+    } in
     let same : rules ≡ rules_in st = ap₂ (λ g k. rules_of g k rules.tables rules.groups) e f in
     packet_stands now.outlines st packet contents new_contents list new_list
-      (subst IsPipe same pipe)
-      (record { pools = refl; tables = tables; groups = groups })
-      (subst (λ (r : Rules). MakesOver (λ c. calls_over r c packet) contents new_contents list new_list) same over)
+    (subst IsPipe same pipe)
+    (record { pools = refl; tables = tables; groups = groups })
+    (subst (λ (r : Rules). MakesOver (λ c. calls_over r c packet) contents new_contents list new_list) same over)

@@ -1,7 +1,6 @@
 -- A row of a sound task lies in its array.
-use Rattle.std.proofs.Common.{ap, subst}
+use Rattle.std.proofs.Common.{subst}
 use Rattle.std.specs.Prelude.{vec_capacity}
-use Rattle.addr_translate.specs.Geometry.{IsGeometry}
 use Rattle.switch_model.specs.Soundness.{Sound}
 use Rattle.rule_txn.specs.Switch.{SwitchState, IsSwitch}
 use Rattle.rule_txn.proofs.LookViews.{placed_at}

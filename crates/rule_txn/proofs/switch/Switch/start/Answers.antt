@@ -1,7 +1,7 @@
 -- A switch begins with nothing taken, installed or in use.
-use Rattle.std.proofs.Common.{◌≡◌, ℕ, ◌≤◌, ap, sym, ◌∙◌, subst, arith}
+use Rattle.std.proofs.Common.{◌≡◌, ℕ, ◌≤◌, ap, ◌∙◌, subst}
 use Rattle.std.specs.Prelude.{vec_capacity}
-use Rattle.addr_translate.specs.Geometry.{Geometry, IsGeometry}
+use Rattle.addr_translate.specs.Geometry.{IsGeometry}
 use Rattle.pipe_core.specs.Rules.{Rules}
 use Rattle.rule_txn.specs.State.{State}
 use Rattle.rule_txn.specs.Switch.{most_records, first_state}
@@ -15,9 +15,9 @@ invariant_of-result g c =
     let same : c.pipe.result.now.geometry ≡ c.args.shape = ap (λ (r : Rules). r.geometry) c.pipe.ensures ∙ ap (λ (s : State). s.geometry) first in
     let room : c.most_records.result ≡ most_records c.args.shape = c.most_records.ensures ∙ ap most_records (c.shape-2.ensures.value ∙ same) in
     begins c.args.shape c.args.key c.in-Ok-with_capacity.records.items c.in-Ok.stage (vec_capacity c.in-Ok-with_capacity.records)
-      c.in-Ok-with_capacity.ensures.items first
-      (subst IsGeometry same c.shape-2.ensures.whole.geometry)
-      (subst (λ (n : ℕ). n ≤ vec_capacity c.in-Ok-with_capacity.records) room c.in-Ok-with_capacity.ensures.capacity)
+    c.in-Ok-with_capacity.ensures.items first
+    (subst IsGeometry same c.shape-2.ensures.whole.geometry)
+    (subst (λ (n : ℕ). n ≤ vec_capacity c.in-Ok-with_capacity.records) room c.in-Ok-with_capacity.ensures.capacity)
 
 pub close-requires : goal.close-requires
 close-requires g c = none_taken c.args.shape c.in-Ok.stage.pools (ap (λ (s : State). s.pools) c.in-Ok.ensures)

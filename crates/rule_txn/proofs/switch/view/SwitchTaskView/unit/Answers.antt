@@ -1,8 +1,8 @@
 -- The units are those of the tasks.
-use Rattle.std.proofs.Common.{◌≡◌, ℕ, ◌<◌, List, length, ap, sym, ◌∙◌, subst, arith}
+use Rattle.std.proofs.Common.{ℕ, ◌<◌, List, length, ap, sym, ◌∙◌, subst}
 use Rattle.std.specs.Prelude.{Option}
 use Rattle.group_keys.specs.Units.{UsedUnit, mask_of, unit_at}
-use Rattle.switch_model.specs.Sights.{all_uses, units_on}
+use Rattle.switch_model.specs.Sights.{all_uses}
 use Rattle.rule_txn.specs.Switch.{SwitchState}
 use Rattle.rule_txn.proofs.LookViews.{units_are, unit_count}
 use Rattle.rule_txn.proofs.switch.view.SwitchTaskView.unit.Goals as goal
