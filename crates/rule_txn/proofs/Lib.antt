@@ -26,3 +26,5 @@ mod Removed
 mod Resizes
 mod Refilled
 mod Added
+pub mod BridgePipe
+pub mod ShownView
