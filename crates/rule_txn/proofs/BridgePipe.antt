@@ -1,6 +1,6 @@
 -- The rules of a switch that stands for sound tasks are those of a pipe.
 use Rattle.std.proofs.Common.{◌≡◌, ℕ, ◌<◌, Bool, true, false, cond, List, [], ◌∷◌, length, map, filter, refl, ap, sym, ◌∙◌, subst, arith}
-use Rattle.std.specs.Prelude.{◌==◌}
+use Rattle.std.specs.Prelude.{◌==◌, Option}
 use Rattle.std.specs.List.{All}
 use Rattle.std.proofs.lemmas.Bool.{eqb-true}
 use Rattle.std.proofs.lemmas.List.Elements.{All-nil, All-cons, All-head, All-tail, All-weaker}
@@ -8,20 +8,26 @@ use Rattle.std.proofs.lemmas.List.FromFn.{length-map-range_with_len}
 use Rattle.sorted_lists.specs.Sorting.{put_by, sort_by}
 use Rattle.sorted_lists.proofs.SortLemmas.{All-sorted}
 use Rattle.addr_translate.specs.Geometry.{Geometry, IsGeometry, array_count, group_in}
+use Rattle.pkt_headers.specs.declared.packets.Packet.{Packet}
+use Rattle.reg_file.specs.declared.traits.Call.{Call}
+use Rattle.reg_file.specs.Registers.{Contents}
+use Rattle.reg_file.specs.Calls.{MakesOver}
 use Rattle.match_table.specs.Tables.{EntryTable}
 use Rattle.pipe_core.specs.Rules.{IsPipe, Fits, table_at, units_of}
+use Rattle.pipe_core.specs.Flow.{calls_over}
 use Rattle.switch_model.specs.Records.{Outline}
 use Rattle.switch_model.specs.Sights.{Spot, spots_by, all_spots, all_uses, rules_on, starts_before, group_uses, units_on}
 use Rattle.switch_model.specs.Soundness.{IsTask, Sound}
 use Rattle.switch_model.proofs.ListLemmas.{all_flat}
 use Rattle.switch_model.proofs.SightLemmas.{length_units}
 use Rattle.rule_txn.specs.State.{State}
-use Rattle.rule_txn.specs.Switch.{Stands, groups_for}
+use Rattle.rule_txn.specs.Switch.{Stands, IsSwitch, groups_for}
+use Rattle.rule_txn.specs.Seen.{PassesOver}
 use Rattle.rule_txn.proofs.Places.{at_range}
 use Rattle.rule_txn.proofs.Settled.{MayStand}
 use Rattle.rule_txn.proofs.Enters.{task_stands}
 use Rattle.rule_txn.proofs.Tables.{length-tables, table_is}
-use Rattle.rule_txn.proofs.BridgeLemmas.{rules_in}
+use Rattle.rule_txn.proofs.BridgeLemmas.{shown_by, rules_in, packet_stands}
 
 -- ---- what holds of all in order holds of all
 
@@ -92,3 +98,12 @@ is_pipe all state good sound stand =
           (All-sorted (Fits geometry array) starts_before (rules_on (all_spots all) array)
           (rules_fit geometry array (all_spots all) (spots_stand geometry all sound))));
     }
+
+-- ---- a packet
+
+-- a step of the pipe of a switch
+pub packet_passes : (all : List Outline) (state : State) (capacity : ℕ) (packet : Packet) (contents new_contents : Option Contents) (list new_list : Option (List Call))
+    → IsSwitch all state capacity → MakesOver (λ c. calls_over (rules_in state) c packet) contents new_contents list new_list
+    → PassesOver (shown_by all state) packet contents new_contents list new_list
+packet_passes all state capacity packet contents new_contents list new_list is over =
+    packet_stands all state packet contents new_contents list new_list (is_pipe all state is.limits is.sound is.stands) is.stands over

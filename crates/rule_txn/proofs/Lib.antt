@@ -28,3 +28,4 @@ mod Refilled
 mod Added
 pub mod BridgePipe
 pub mod ShownView
+mod ShownValues
