@@ -1,9 +1,8 @@
 -- After a change the registers stand for the tasks that it leaves.
-use Rattle.std.proofs.Common.{◌≡◌, ℕ, ◌+◌, ◌^◌, ◌<◌, Bool, false, List, [], ◌∷◌, ◌++◌, length, get_or, map, refl, ap, ap₂, sym, ◌∙◌, subst}
-use Rattle.std.specs.Prelude.{◌||◌, Option, None, Some, Result, Ok, Err}
+use Rattle.std.proofs.Common.{◌≡◌, ℕ, ◌+◌, ◌^◌, ◌<◌, false, List, [], ◌∷◌, get_or, map, refl, ap, ap₂, sym, ◌∙◌, subst}
+use Rattle.std.specs.Prelude.{◌||◌, Option, Result, Ok, Err}
 use Rattle.std.specs.List.{All, list_any}
 use Rattle.std.proofs.lemmas.List.Elements.{All-nil, All-head, All-tail}
-use Rattle.addr_translate.specs.Blocks.{Block}
 use Rattle.addr_translate.specs.Geometry.{Geometry, IsGeometry}
 use Rattle.reg_file.specs.Registers.{Contents}
 use Rattle.placer.specs.Laws.{ArePlaces}
@@ -11,9 +10,8 @@ use Rattle.placer.proofs.PlacementLemmas.{placed_accepted}
 use Rattle.switch_model.specs.Records.{Record, Outline, outlines}
 use Rattle.switch_model.specs.Sights.{Holding, live_holding, all_held, sight_of}
 use Rattle.switch_model.specs.Soundness.{ShareNone, IsTask, Sound}
-use Rattle.switch_model.specs.Changes.{Change, Add, Resize, Remove, Release, Edit, Drop, Thaw, Refusal, judged, after_verdict, changed, edited_outlines, edited_records}
-use Rattle.switch_model.specs.Packets.{Stand, all_stands, HoldsCells, Layout}
-use Rattle.switch_model.specs.Histories.{Changes}
+use Rattle.switch_model.specs.Changes.{Change, Add, Resize, Remove, Release, Edit, Drop, Thaw, Refusal, judged, after_verdict, changed, edited_outlines}
+use Rattle.switch_model.specs.Packets.{Stand, all_stands, HoldsCells}
 use Rattle.switch_model.specs.Laws.{is_in, fresh_of, start_in, Refilled, IsProper}
 use Rattle.switch_model.proofs.ListLemmas.{Across, all_here, all_mapped}
 use Rattle.switch_model.proofs.JudgedLemmas.{AddIs, ResizeIs, EditsAt, add_is, resize_is, remove_is, release_is}

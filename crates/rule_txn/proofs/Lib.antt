@@ -29,3 +29,6 @@ mod Refilled
 mod Added
 mod LookViews
 mod LookStarts
+pub mod BridgePipe
+pub mod ShownView
+mod ShownValues

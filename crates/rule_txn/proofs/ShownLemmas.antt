@@ -2,35 +2,33 @@
 use Rattle.std.proofs.Common.{◌≡◌, ℕ, ◌^◌, ◌<◌, ◌≤◌, ◌&&◌, Bool, true, false, List, [], ◌∷◌, length, get_or, map, refl, ap, ap₂, sym, ◌∙◌, subst, arith, inl, inr}
 use Rattle.std.specs.Prelude.{◌⊎◌, nat_le, cond, Option, None, Some, IfSome, IsSome, option_map, unwrap_or}
 use Rattle.std.specs.Str.{bytes_eq}
-use Rattle.std.specs.List.{All, find, flat_map, range_with_len}
+use Rattle.std.specs.List.{All, find}
 use Rattle.std.proofs.Math.Pow.{pow-lt}
 use Rattle.std.proofs.lemmas.Bool.{cases_lt}
 use Rattle.std.proofs.lemmas.Bool.Decides.{nat_tests}
-use Rattle.std.proofs.lemmas.List.Elements.{All-nil, All-cons, All-head, All-tail, All-map, All-weaker}
+use Rattle.std.proofs.lemmas.List.Elements.{All-head, All-tail, All-map, All-weaker}
 use Rattle.addr_translate.specs.Blocks.{Block}
 use Rattle.addr_translate.specs.Geometry.{Geometry, bits_of, greatest_bits}
 use Rattle.addr_translate.proofs.GeometryLemmas.{bits_within}
-use Rattle.pkt_headers.specs.declared.packets.Packet.{Packet}
 use Rattle.reg_file.specs.Registers.{Contents}
 use Rattle.sketch_defs.specs.declared.kinds.Kind.{Kind}
 use Rattle.sketch_defs.specs.declared.kinds.Kind.TheVariants.{Hll}
 use Rattle.sketch_defs.specs.Tasks.{Sketch}
-use Rattle.sketch_defs.specs.Cells.{cells_of, row_of}
+use Rattle.sketch_defs.specs.Cells.{cells_of}
 use Rattle.sketch_defs.proofs.TaskLemmas.{some_rows}
 use Rattle.sketch_lower.proofs.CellLemmas.{length-cells}
-use Rattle.placer.specs.Sights.{bits_for, may_have, smallest_bits, least_cells}
+use Rattle.placer.specs.Sights.{bits_for, smallest_bits, least_cells}
 use Rattle.placer.proofs.SightLemmas.{IsSize, size_is}
-use Rattle.switch_model.specs.Records.{Past, Part, Row, Record, Outline, outline, outlines, frozen_size}
+use Rattle.switch_model.specs.Records.{Past, Part, Row, Record, Outline, outline, outlines}
 use Rattle.switch_model.specs.Soundness.{IsRow, IsTask, IsPartOf, size_of, Sound}
 use Rattle.switch_model.specs.Histories.{has_name, part_of}
 use Rattle.switch_model.specs.Packets.{Stand, HoldsCells, Layout, live_stands, frozen_stands, past_stands, stands_by, all_stands}
 use Rattle.switch_model.proofs.ListLemmas.{all_unflat, all_front, all_back, length_map}
 use Rattle.switch_model.proofs.CallLemmas.{and_parts}
-use Rattle.readout.specs.declared.views.Placed.{Placed}
 use Rattle.readout.specs.declared.views.Side.TheVariants.{Live, Frozen}
 use Rattle.readout.specs.Parts.{Rows, SketchPart}
 use Rattle.readout.specs.Answers.{part_named}
-use Rattle.readout.specs.PlacedTasks.{no_place, place_at, rows_of_side, PlacedTask, View, IsPlaced, IsPlacedTask, IsFit, LiesIn, AreWithin, live_bits, frozen_bits, frozen_bits_in, row_contents, rows_contents, part_in, parts_in}
+use Rattle.readout.specs.PlacedTasks.{no_place, place_at, rows_of_side, PlacedTask, IsPlaced, IsPlacedTask, IsFit, LiesIn, AreWithin, live_bits, frozen_bits, frozen_bits_in, row_contents, rows_contents, part_in, parts_in}
 use Rattle.rule_txn.specs.Switch.{SwitchState}
 use Rattle.rule_txn.specs.Seen.{StandsFor, placed_row, placed_task, view_of, bits_in, rows_shown, past_shown, part_shown, parts_shown}
 use Rattle.rule_txn.proofs.ShownRows.{same_power, bits_are, whole_rows, LiveBits, live_reads, FrozenBits, frozen_reads}

@@ -1,5 +1,5 @@
 -- What registers tell of rows are the cells that they hold.
-use Rattle.std.proofs.Common.{◌≡◌, ℕ, zero, suc, ◌+◌, ◌^◌, ◌<◌, ◌≤◌, ◌==◌, Bool, true, false, cond, List, [], ◌∷◌, ◌++◌, length, map, get_or, refl, ap, ap₂, sym, ◌∙◌, subst, arith, eq-eqb, inl, inr}
+use Rattle.std.proofs.Common.{◌≡◌, ℕ, zero, suc, ◌+◌, ◌^◌, ◌<◌, ◌≤◌, ◌==◌, Bool, true, false, cond, List, [], ◌∷◌, ◌++◌, length, map, refl, ap, ap₂, sym, ◌∙◌, subst, arith, eq-eqb, inl, inr}
 use Rattle.std.specs.Prelude.{◌⊎◌, slice_index, Option, None, Some, option_map, unwrap_or}
 use Rattle.std.specs.List.{All, find, range_with_len}
 use Rattle.std.proofs.Math.Pow.{pow-lt}
@@ -8,15 +8,11 @@ use Rattle.std.proofs.lemmas.List.{ext_get_or}
 use Rattle.std.proofs.lemmas.List.Elements.{All-head, All-tail}
 use Rattle.std.proofs.lemmas.List.FromFn.{get_or-map-range_with_len, length-map-range_with_len}
 use Rattle.addr_translate.specs.Blocks.{Block}
-use Rattle.pkt_headers.specs.declared.packets.Packet.{Packet}
 use Rattle.reg_file.specs.Registers.{Contents}
-use Rattle.sketch_defs.specs.Tasks.{Sketch}
 use Rattle.sketch_defs.specs.Cells.{cells_of, row_of}
-use Rattle.sketch_lower.proofs.CellLemmas.{length-cells}
 use Rattle.sketch_lower.proofs.RowLemmas.{length-row}
 use Rattle.switch_model.specs.Records.{Past, Part, Row}
 use Rattle.switch_model.specs.Packets.{Stand, HoldsCells, live_stand, live_stands, frozen_stand, frozen_stands}
-use Rattle.readout.specs.declared.views.Placed.{Placed}
 use Rattle.readout.specs.declared.views.Side.TheVariants.{Live, Frozen}
 use Rattle.readout.specs.PlacedTasks.{row_contents}
 use Rattle.rule_txn.specs.Seen.{placed_row, bits_in}
@@ -40,8 +36,8 @@ power_found size bits a (suc n) is low high = by (λ more. power_found size bits
     other : (a < bits) ⊎ (bits ≤ a) → a + 1 ≤ bits
     other (inl less) = omega arith
     other (inr le) = absurd (
-      let same : a ≡ bits = omega arith in
-      false≢true (sym e ∙ eq-eqb (2 ^ a) size (ap (λ b. 2 ^ b) same ∙ is)))
+        let same : a ≡ bits = omega arith in
+        false≢true (sym e ∙ eq-eqb (2 ^ a) size (ap (λ b. 2 ^ b) same ∙ is)))
 
 pub bits_are : (size bits : ℕ) → 2 ^ bits ≡ size → bits ≤ 20 → bits_in size ≡ bits
 bits_are size bits is few = ap (λ o. unwrap_or o 0) (power_found size bits 0 21 is (omega arith) (omega arith))
