@@ -19,3 +19,4 @@ mod Removed
 mod Resizes
 mod Refilled
 mod Added
+mod Resized
