@@ -20,3 +20,4 @@ mod Resizes
 mod Refilled
 mod Added
 mod Resized
+mod Goes
