@@ -1,5 +1,5 @@
 -- Frozen rows that are released, or were not there.
-use Rattle.std.proofs.Common.{◌≡◌, ℕ, ◌+◌, ◌<◌, ◌≤◌, Bool, true, false, List, [], ◌∷◌, ◌++◌, length, map, position, insert, remove, refl, ap, ap₂, sym, ◌∙◌, subst, arith}
+use Rattle.std.proofs.Common.{◌≡◌, ℕ, ◌+◌, ◌<◌, ◌≤◌, Bool, true, false, not, List, [], ◌∷◌, ◌++◌, length, map, position, insert, remove, refl, ap, ap₂, sym, ◌∙◌, subst, arith}
 use Rattle.std.specs.Prelude.{Option, None, Some, IfSome, is_some, is_none, Result, Ok, Err, vec_capacity, slice_index_or}
 use Rattle.std.specs.List.{All, AllPairs}
 use Rattle.reg_file.specs.Registers.{Dims}
@@ -49,7 +49,7 @@ returns-then-is_none c =
     let at : ℕ = c.in-Some.at in
     let place : position (is_called n) os ≡ Some at = ap (λ (s : SwitchState). position (is_called n) s.outlines) c.self.view_is ∙ sym c.find.ensures.place ∙ c.in-Some.is in
     let first : Outline = c.index.result.now in
-    let asked : is_none first.frozen ≡ true = ap is_none (sym c.frozen.ensures) ∙ sym c.is_none.ensures ∙ c.if-is_none.true in
+    let asked : is_none first.frozen ≡ true = ap is_none (sym c.frozen.ensures) ∙ ap not c.is_none.ensures ∙ ap (λ b. not (not b)) c.if-is_none.true in
     let shown : judged v.geometry v.outlines (Release n) ≡ judged st.geometry os (Release n) = ap (λ (s : SwitchState). judged s.geometry s.outlines (Release n)) (sym c.self.view_is) in
     subst (λ r. Answers {T = Unit {0}} release_cause r (Err releasing.NoFrozen) v v) (sym (shown ∙ nothing_frozen st os n at first place c.index.ensures asked)) (refl, refl)
 
@@ -64,7 +64,7 @@ give_frozen_all-requires c =
     let at : ℕ = c.in-Some.at in
     let place : position (is_called n) os ≡ Some at = ap (λ (s : SwitchState). position (is_called n) s.outlines) c.self.view_is ∙ sym c.find.ensures.place ∙ c.in-Some.is in
     let first : Outline = c.index.result.now in
-    let asked : is_none first.frozen ≡ false = ap is_none (sym c.frozen.ensures) ∙ sym c.is_none.ensures ∙ c.if-is_none.false in
+    let asked : is_none first.frozen ≡ false = ap is_none (sym c.frozen.ensures) ∙ ap not c.is_none.ensures ∙ ap (λ b. not (not b)) c.if-is_none.false in
     let o : Outline = c.remove.result in
     let slots : List (Option Row) = c.apart-task.result.2 in
     let going : Going os st cap n at o slots = record { kept = kept; place = place; here = c.remove.ensures.value; rows = c.apart-task.ensures.rows } in
@@ -83,7 +83,7 @@ invariant_of-self c =
     let at : ℕ = c.in-Some.at in
     let place : position (is_called n) os ≡ Some at = ap (λ (s : SwitchState). position (is_called n) s.outlines) c.self.view_is ∙ sym c.find.ensures.place ∙ c.in-Some.is in
     let first : Outline = c.index.result.now in
-    let asked : is_none first.frozen ≡ false = ap is_none (sym c.frozen.ensures) ∙ sym c.is_none.ensures ∙ c.if-is_none.false in
+    let asked : is_none first.frozen ≡ false = ap is_none (sym c.frozen.ensures) ∙ ap not c.is_none.ensures ∙ ap (λ b. not (not b)) c.if-is_none.false in
     let o : Outline = c.remove.result in
     let slots : List (Option Row) = c.apart-task.result.2 in
     let going : Going os st cap n at o slots = record { kept = kept; place = place; here = c.remove.ensures.value; rows = c.apart-task.ensures.rows } in
@@ -105,7 +105,7 @@ returns c =
     let at : ℕ = c.in-Some.at in
     let place : position (is_called n) os ≡ Some at = ap (λ (s : SwitchState). position (is_called n) s.outlines) c.self.view_is ∙ sym c.find.ensures.place ∙ c.in-Some.is in
     let first : Outline = c.index.result.now in
-    let asked : is_none first.frozen ≡ false = ap is_none (sym c.frozen.ensures) ∙ sym c.is_none.ensures ∙ c.if-is_none.false in
+    let asked : is_none first.frozen ≡ false = ap is_none (sym c.frozen.ensures) ∙ ap not c.is_none.ensures ∙ ap (λ b. not (not b)) c.if-is_none.false in
     let o : Outline = c.remove.result in
     let slots : List (Option Row) = c.apart-task.result.2 in
     let going : Going os st cap n at o slots = record { kept = kept; place = place; here = c.remove.ensures.value; rows = c.apart-task.ensures.rows } in
