@@ -32,3 +32,5 @@ mod LookStarts
 pub mod BridgePipe
 pub mod ShownView
 mod ShownValues
+mod Resized
+mod Goes
