@@ -1,0 +1,9 @@
+pub mod Agreements
+pub mod PlaceLemmas
+pub mod DrainLemmas
+pub mod CommitLemmas
+pub mod OrderLemmas
+pub mod SerialLemmas
+pub mod TraceLemmas
+pub mod GroupLemmas
+pub mod LawLemmas

@@ -1,0 +1,46 @@
+-- What clauses see of a `Flight`, and how an advance changes it.
+use Rattle.std.specs.Prelude.{◌≡◌, ℕ, ◌+◌, ◌≤◌, true, List, ◌∷◌, ◌++◌, map, length, Option}
+use Rattle.reg_file.specs.declared.traits.Call.{Call}
+use Rattle.reg_file.specs.Registers.{Contents}
+use Rattle.reg_file.specs.Calls.{Makes}
+use Rattle.pkt_headers.specs.declared.packets.Packet.{Packet}
+use Rattle.pipe_core.specs.Rules.{Rules}
+use Rattle.pipe_core.specs.Flow.{stages_in}
+use Rattle.pipe_flight.specs.Flights.{Flying, Versions, calls_next}
+use Rattle.pipe_flight.specs.Orders.{IsFlight, if_left}
+use Rattle.pipe_flight.specs.declared.waiting.Waiting.{Waiting}
+
+-- the packets in order of entry, and the old rules
+pub record FlightState : Type 0 where
+  pub flight : List (Flying Packet)
+  pub before : Rules
+
+abbrev pub flying : Waiting → Flying Packet
+flying one = record { packet = one.packet; group = one.group; kept = one.kept; outs = one.outs.carry }
+
+abbrev pub state_of : List Waiting → Rules → FlightState
+state_of waiting before = record { flight = map flying waiting; before = before }
+
+abbrev pub group_count : Rules → ℕ
+group_count rules = length rules.geometry.groups
+
+-- the order holds, there is a group, and there is room for a packet before each
+pub record IsKept (state : FlightState) (room : ℕ) : Type 0 where
+  pub in_order : IsFlight (group_count state.before) state.flight
+  pub some : 1 ≤ group_count state.before
+  pub has_room : group_count state.before ≤ room
+
+-- the rules of now and the old ones
+abbrev pub versions : Rules → Rules → Versions Packet
+versions now before = record { count = group_count now; now = stages_in now; old = stages_in before }
+
+-- the packet before the group makes the calls of the group, and stands before the next or has left
+pub record MovesOn (rules : Versions Packet) (group : ℕ) (flight new_flight : List (Flying Packet)) (contents new_contents : Option Contents) (list new_list : Option (List Call)) : Type 0 where
+  pub front : List (Flying Packet)
+  pub one : Flying Packet
+  pub back : List (Flying Packet)
+  pub split : flight ≡ front ++ one ∷ back
+  pub here : one.group ≡ group
+  pub outs : List ℕ
+  pub new_split : new_flight ≡ front ++ (if_left rules.count (record { packet = one.packet; group = one.group + 1; kept = one.kept; outs = outs }) ++ back)
+  pub makes : Makes (calls_next rules one) one.outs outs contents new_contents list new_list

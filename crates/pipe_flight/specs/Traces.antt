@@ -1,0 +1,71 @@
+-- What the serial run did to the registers of a group, and which of it the packets in flight have done.
+use Rattle.std.specs.Prelude.{◌≡◌, ℕ, zero, suc, ◌+◌, ◌<◌, false, if◌then◌else◌, nat_le, List, [], ◌∷◌}
+use Rattle.std.specs.List.{All}
+use Rattle.reg_file.specs.declared.traits.Call.{Call}
+use Rattle.reg_file.specs.Registers.{Contents}
+use Rattle.reg_file.specs.Calls.{all_made}
+use Rattle.pipe_core.specs.Flow.{Stages, flow}
+use Rattle.pipe_flight.specs.Flights.{Flying}
+use Rattle.pipe_flight.specs.Schedules.{Fill, filled, Step, Serial, Moment, AreStaged, moment_after, serial_after, MeetAll, first_moment, first_serial, ran}
+use Rattle.pipe_flight.specs.Schedules.Step.{Enter, Advance, Change, Show, Rearrange}
+
+-- the calls of one packet, or a fill
+pub data Item : Type 0 where
+  Made : (calls : List Call) → Item
+  Filled : (fill : Fill) → Item
+
+-- the items of the serial run, the last first
+abbrev pub trace_after : {P : Type 0} → ℕ → List ℕ → Serial P → List Item → Step P → List Item
+trace_after count none s trace (Enter packet) = Made (flow s.now s.contents packet count 0 none) ∷ trace
+trace_after count none s trace (Advance group) = trace
+trace_after count none s trace (Change next fill) = Filled fill ∷ trace
+trace_after count none s trace Show = trace
+trace_after count none s trace (Rearrange next effect) = trace
+
+abbrev pub traced : {P : Type 0} → ℕ → List ℕ → Serial P → List Item → List (Step P) → List Item
+traced count none s trace [] = trace
+traced count none s trace (step ∷ steps) =
+    traced count none (serial_after count none s step) (trace_after count none s trace step) steps
+
+-- the registers that items leave
+abbrev pub play : Contents → List Item → Contents
+play start [] = start
+play start (Made calls ∷ items) = all_made (play start items) calls
+play start (Filled fill ∷ items) = filled fill (play start items)
+
+-- the items without the calls of the last `n` packets
+abbrev pub without_last : ℕ → List Item → List Item
+without_last zero items = items
+without_last (suc n) [] = []
+without_last (suc n) (Made calls ∷ items) = without_last n items
+without_last (suc n) (Filled fill ∷ items) = Filled fill ∷ without_last (suc n) items
+
+-- how many packets have not passed the group: those that entered last
+abbrev pub not_passed : {P : Type 0} → ℕ → List (Flying P) → ℕ
+not_passed group [] = 0
+not_passed group (one ∷ others) = (if nat_le one.group group then 1 else 0) + not_passed group others
+
+-- the registers of each group are what the serial run's calls and fills leave, without the calls of the packets that
+-- have not passed the group
+abbrev pub GroupsAgree : {P : Type 0} → (ℕ → ℕ) → ℕ → Contents → List Item → Contents → List (Flying P) → Type 0
+GroupsAgree group_of count start trace contents flight =
+    (a i : ℕ) → group_of a < count → contents a i ≡ play start (without_last (not_passed (group_of a) flight) trace) a i
+
+-- steps of a flight; rules change when no old packet is in flight, which advances can bring about
+abbrev pub IsFine : {P : Type 0} → Moment P → Step P → Type 0
+IsFine m (Enter packet) = Unit {0}
+IsFine m (Advance group) = Unit {0}
+IsFine m (Change next fill) = All (λ one. one.kept ≡ false) m.flight
+IsFine m Show = ⊥
+IsFine m (Rearrange next effect) = ⊥
+
+abbrev pub AreFine : {P : Type 0} → List ℕ → Moment P → List (Step P) → Type 0
+AreFine none m [] = Unit {0}
+AreFine none m (step ∷ steps) = IsFine m step × AreFine none (moment_after none m step) steps
+
+abbrev pub KeepsGroupOrder : Type 0 → Type 0
+KeepsGroupOrder P = (group_of : ℕ → ℕ) (none : List ℕ) (count : ℕ) (now : Stages P) (contents : Contents) (schedule : List (Step P))
+    → 0 < count → AreStaged group_of now → MeetAll group_of none (first_moment count now contents) schedule
+    → AreFine none (first_moment count now contents) schedule
+    → GroupsAgree group_of count contents (traced count none (first_serial now contents) [] schedule)
+        (ran none (first_moment count now contents) schedule).contents (ran none (first_moment count now contents) schedule).flight
