@@ -7,3 +7,6 @@ pub mod SerialLemmas
 pub mod TraceLemmas
 pub mod GroupLemmas
 pub mod LawLemmas
+pub mod PassLemmas
+pub mod MoveLemmas
+pub mod KeepLemmas

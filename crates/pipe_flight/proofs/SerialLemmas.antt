@@ -93,7 +93,7 @@ advance_split {P} group_of rules contents calls s front one back flight made_cal
         ∙ sym (filter-append (is_on array) calls (drained rules contents (front ++ one ∷ back)))
         ∙ a.calls array }
 
-nobody_front : {P : Type 0} (group : ℕ) (front back : List (Flying P)) → NobodyAt group (front ++ back) → NobodyAt group front
+pub nobody_front : {P : Type 0} (group : ℕ) (front back : List (Flying P)) → NobodyAt group (front ++ back) → NobodyAt group front
 nobody_front {P} group [] back h = All-nil (λ (f : Flying P). f.group ≢ group)
 nobody_front {P} group (one ∷ front) back h = All-cons (λ (f : Flying P). f.group ≢ group) one front (All-head (λ (f : Flying P). f.group ≢ group) one (front ++ back) h) (nobody_front group front back (All-tail (λ (f : Flying P). f.group ≢ group) one (front ++ back) h))
 

@@ -1,5 +1,5 @@
 -- What clauses see of a `Flight`, and how an advance changes it.
-use Rattle.std.specs.Prelude.{◌≡◌, ℕ, ◌+◌, ◌≤◌, true, List, ◌∷◌, ◌++◌, map, length, Option}
+use Rattle.std.specs.Prelude.{◌≡◌, ℕ, ◌+◌, ◌≤◌, true, List, [], ◌∷◌, ◌++◌, filter, map, length, Option}
 use Rattle.reg_file.specs.declared.traits.Call.{Call}
 use Rattle.reg_file.specs.Registers.{Contents}
 use Rattle.reg_file.specs.Calls.{Makes}
@@ -7,7 +7,7 @@ use Rattle.pkt_headers.specs.declared.packets.Packet.{Packet}
 use Rattle.pipe_core.specs.Rules.{Rules}
 use Rattle.pipe_core.specs.Flow.{stages_in}
 use Rattle.pipe_flight.specs.Flights.{Flying, Versions, calls_next}
-use Rattle.pipe_flight.specs.Orders.{IsFlight, if_left}
+use Rattle.pipe_flight.specs.Orders.{IsFlight, if_left, is_old, is_present}
 use Rattle.pipe_flight.specs.declared.waiting.Waiting.{Waiting}
 
 -- the packets in order of entry, and the old rules
@@ -44,3 +44,14 @@ pub record MovesOn (rules : Versions Packet) (group : ℕ) (flight new_flight : 
   pub outs : List ℕ
   pub new_split : new_flight ≡ front ++ (if_left rules.count (record { packet = one.packet; group = one.group + 1; kept = one.kept; outs = outs }) ++ back)
   pub makes : Makes (calls_next rules one) one.outs outs contents new_contents list new_list
+
+-- ---- of packets as the code keeps them
+
+-- the packet is old
+abbrev pub kept_waiting : Waiting → Waiting
+kept_waiting one = record { packet = one.packet; group = one.group; kept = true; outs = one.outs }
+
+-- no packet is old
+pub record NoOld (flight : List (Flying Packet)) : Type 0 where
+  pub olds : filter is_old flight ≡ []
+  pub presents : filter is_present flight ≡ flight

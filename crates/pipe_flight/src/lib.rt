@@ -1,7 +1,11 @@
 //! Packets that stand before different groups of a pipe at once, while its rules change.
 #![tactic(auto)]
 
+mod flights;
 mod laws;
+mod passing;
 mod waiting;
 
+pub use flights::Flight;
 pub use laws::{enter_drain, fill_drain, group_order, serial_order};
+pub use std::alloc::AllocError as OutOfMemory;

@@ -1,0 +1,365 @@
+-- The packets in flight, as code keeps them.
+use Rattle.std.proofs.Common.{◌≡◌, ◌≢◌, ℕ, zero, suc, ◌+◌, ◌-◌, ◌/◌, ◌<◌, ◌≤◌, Bool, true, false, not, cond, filter, List, [], ◌∷◌, ◌++◌, length, get_or, take, drop, map, refl, ap, ap₂, sym, ◌∙◌, subst, arith, eq-eqb}
+use Rattle.std.specs.Prelude.{Result, Ok, Err, IsOk, is_ok, is_err, IsTrue, ◌↔◌, nat_lt, Option, Some, None, ◌==◌, ◌||◌, slice_set}
+use Rattle.std.proofs.lemmas.List.Elements.{All-nil, All-head, All-tail, All-cons}
+use Rattle.std.specs.List.{All, remove, list_any, position, position_or_len}
+use Rattle.std.proofs.lemmas.Bool.{false≢true, eqb-true, ltb-true, ltb-false}
+use Rattle.std.proofs.lemmas.List.Sums.{passes_at_first, fails_before_first}
+use Rattle.std.proofs.lemmas.List.Folds.{list_any_none}
+use Rattle.addr_translate.specs.Geometry.{Geometry, group_number}
+use Rattle.reg_file.proofs.CallLemmas.{or_false}
+use Rattle.std.proofs.lemmas.Bool.Decides.{nat_tests}
+use Rattle.std.proofs.lemmas.List.{map-append, length-append, take-append-drop, set_split, length-map, length-take-le, get_or_default}
+use Rattle.std.proofs.Math.Seq.{drop-cons}
+use Rattle.reg_file.specs.declared.traits.Call.{Call}
+use Rattle.reg_file.specs.Registers.{Contents}
+use Rattle.reg_file.specs.Calls.{Makes, all_made}
+use Rattle.pkt_headers.specs.declared.packets.Packet.{Packet}
+use Rattle.cmu_stage.specs.declared.passing.Outs.{Outs}
+use Rattle.pipe_core.specs.Rules.{Rules, SameShape}
+use Rattle.pipe_core.specs.Groups.{group_calls, no_carries}
+use Rattle.pipe_flight.specs.Flights.{Flying, Versions, entering, calls_next, moved_on, drained, drain, kept_now}
+use Rattle.pipe_flight.specs.Orders.{NobodyAt, if_left, is_old, is_present, Falls, OldFirst, IsFlight}
+use Rattle.pipe_flight.specs.Schedules.{calls_of_group, passed_group, AreStaged}
+use Rattle.pipe_flight.specs.States.{FlightState, flying, state_of, group_count, versions, MovesOn, kept_waiting, NoOld}
+use Rattle.pipe_flight.proofs.DrainLemmas.{drained_append, drain_append, advance_drain, BothStaged}
+use Rattle.outside.specs.Told.{Told}
+use Rattle.outside.proofs.ToldLemmas.{told_weaker}
+use Rattle.pipe_flight.proofs.PassLemmas.{staged}
+use Rattle.pipe_flight.proofs.OrderLemmas.{all_present, old_split, falls_enter, old_push, falls_here, falls_above, falls_leave, falls_kept, old_leave, old_kept, left_drained, group_calls_of, group_passed}
+use Rattle.pipe_flight.proofs.SerialLemmas.{left_flight, nobody_front}
+use Rattle.pipe_flight.proofs.CommitLemmas.{commit_drained}
+use Rattle.reg_file.specs.Calls.{MakesOver}
+use Rattle.pipe_core.specs.Flow.{stages_in}
+use Rattle.pipe_flight.specs.declared.waiting.Waiting.{Waiting}
+
+abbrev pub IsInOrder : FlightState → Type 0
+IsInOrder state = IsFlight (group_count state.before) state.flight
+
+abbrev pub front_of : List Waiting → ℕ → List (Flying Packet)
+front_of waiting at = map flying (take at waiting)
+
+abbrev pub back_of : List Waiting → ℕ → List (Flying Packet)
+back_of waiting at = map flying (drop (suc at) waiting)
+
+pub split : (waiting : List Waiting) (at : ℕ) (one : Waiting) → at < length waiting → one ≡ get_or waiting at one → map flying waiting ≡ front_of waiting at ++ flying one ∷ back_of waiting at
+split waiting at one lt is =
+    ap (map flying) (sym (take-append-drop at waiting) ∙ ap (λ ys. take at waiting ++ ys) (drop-cons waiting at one lt))
+    ∙ map-append flying (take at waiting) (get_or waiting at one ∷ drop (suc at) waiting)
+    ∙ ap (λ x. front_of waiting at ++ flying x ∷ back_of waiting at) (sym is)
+
+pub set_is : (waiting : List Waiting) (at : ℕ) (next : Waiting) → at < length waiting → map flying (slice_set waiting at next) ≡ front_of waiting at ++ flying next ∷ back_of waiting at
+set_is waiting at next lt = ap (map flying) (set_split waiting at next lt) ∙ map-append flying (take at waiting) (next ∷ drop (suc at) waiting)
+
+pub removed_is : (waiting : List Waiting) (at : ℕ) → map flying (take at waiting ++ drop (suc at) waiting) ≡ front_of waiting at ++ back_of waiting at
+removed_is waiting at = map-append flying (take at waiting) (drop (suc at) waiting)
+
+-- the rules of a packet
+pub group_there : (before now rules : Rules) (waiting : List Waiting) (at : ℕ) (one : Waiting) → IsFlight (group_count before) (map flying waiting) → at < length waiting → one ≡ get_or waiting at one → (group_count before) ≡ (group_count now) → rules ≡ cond one.kept before now → one.group < (group_count rules)
+group_there before now rules waiting at one f lt is same r =
+    let here : one.group < (group_count before) = falls_here (group_count before) (front_of waiting at) (flying one) (back_of waiting at) (subst (λ fs. IsFlight (group_count before) fs) (split waiting at one lt is) f).falls in
+    by one.kept (ap (λ (x : Rules). (group_count x)) r) here
+  where
+    by : (b : Bool) → (group_count rules) ≡ (group_count (cond b before now)) → one.group < (group_count before) → one.group < (group_count rules)
+    by true e h = omega arith
+    by false e h = omega arith
+
+pub calls_there : (before now rules : Rules) (one : Waiting) → rules ≡ cond one.kept before now → group_calls rules one.group one.packet one.outs.carry ≡ calls_next (versions now before) (flying one)
+calls_there before now rules one r = ap (λ (x : Rules). group_calls x one.group one.packet one.outs.carry) r ∙ by one.kept
+  where
+    by : (b : Bool) → group_calls (cond b before now) one.group one.packet one.outs.carry ≡ (cond b (stages_in before) (stages_in now)) one.group one.packet one.outs.carry
+    by true = refl
+    by false = refl
+
+abbrev pub next_of : Waiting → Outs → Waiting
+next_of one outs = record { packet = one.packet; group = one.group + 1; kept = one.kept; outs = outs }
+
+-- what is left, in either case
+left_removed : (count : ℕ) (front : List (Flying Packet)) (next : Flying Packet) (back : List (Flying Packet)) → next.group ≡ count → front ++ (if_left count next ++ back) ≡ front ++ back
+left_removed count front next back e = (let t : (next.group == count) ≡ true = grind (arith, nat_tests) in ap (λ b. front ++ (cond b [] (next ∷ []) ++ back)) t)
+
+left_kept : (count : ℕ) (front : List (Flying Packet)) (next : Flying Packet) (back : List (Flying Packet)) → next.group ≢ count → front ++ (if_left count next ++ back) ≡ front ++ next ∷ back
+left_kept count front next back ne = (let t : (next.group == count) ≡ false = grind (arith, nat_tests) in ap (λ b. front ++ (cond b [] (next ∷ []) ++ back)) t)
+
+pub flight_after : (count : ℕ) (waiting : List Waiting) (at : ℕ) (one : Waiting) (outs : Outs) → IsFlight count (map flying waiting) → NobodyAt (one.group + 1) (map flying waiting) → at < length waiting → one ≡ get_or waiting at one
+    → IsFlight count (front_of waiting at ++ (if_left count (flying (next_of one outs)) ++ back_of waiting at))
+flight_after count waiting at one outs f vacant lt is =
+    let e = split waiting at one lt is in
+    left_flight count (front_of waiting at) (flying one) (flying (next_of one outs)) (back_of waiting at) refl refl
+      (subst (IsFlight count) e f)
+      (nobody_front (one.group + 1) (front_of waiting at) (flying one ∷ back_of waiting at) (subst (NobodyAt (one.group + 1)) e vacant))
+
+pub after_removed : (count : ℕ) (waiting items : List Waiting) (at : ℕ) (one : Waiting) (outs : Outs) → items ≡ take at waiting ++ drop (suc at) waiting → one.group + 1 ≡ count
+    → map flying items ≡ front_of waiting at ++ (if_left count (flying (next_of one outs)) ++ back_of waiting at)
+after_removed count waiting items at one outs i e = ap (map flying) i ∙ removed_is waiting at ∙ sym (left_removed count (front_of waiting at) (flying (next_of one outs)) (back_of waiting at) e)
+
+pub after_set : (count : ℕ) (waiting : List Waiting) (at : ℕ) (one : Waiting) (outs : Outs) → at < length waiting → one.group + 1 ≢ count
+    → map flying (slice_set waiting at (next_of one outs)) ≡ front_of waiting at ++ (if_left count (flying (next_of one outs)) ++ back_of waiting at)
+after_set count waiting at one outs lt ne = set_is waiting at (next_of one outs) lt ∙ sym (left_kept count (front_of waiting at) (flying (next_of one outs)) (back_of waiting at) ne)
+
+pub moves_on : (before now rules : Rules) (waiting : List Waiting) (group at : ℕ) (one : Waiting) (outs : Outs) (new_flight : List (Flying Packet)) (contents new_contents : Option Contents) (list new_list : Option (List Call))
+    → at < length waiting → one ≡ get_or waiting at one → one.group ≡ group → rules ≡ cond one.kept before now
+    → new_flight ≡ front_of waiting at ++ (if_left (group_count now) (flying (next_of one outs)) ++ back_of waiting at)
+    → Makes (group_calls rules one.group one.packet one.outs.carry) one.outs.carry outs.carry contents new_contents list new_list
+    → MovesOn (versions now before) group (map flying waiting) new_flight contents new_contents list new_list
+moves_on before now rules waiting group at one outs new_flight contents new_contents list new_list lt is here r n m = record {
+  front = front_of waiting at; one = flying one; back = back_of waiting at;
+  split = split waiting at one lt is;
+  here = here;
+  outs = outs.carry;
+  new_split = n;
+  makes = subst (λ calls. Makes calls one.outs.carry outs.carry contents new_contents list new_list) (calls_there before now rules one r) m }
+
+pub count_same : {one two : Rules} → SameShape one two → group_count one ≡ group_count two
+count_same same = ap (λ (g : Geometry). length g.groups) same.geometry
+
+-- the place that was found
+found_at : (p : Waiting → Bool) (xs : List Waiting) (at : ℕ) → position p xs ≡ Some at → (at < length xs) × ((d : Waiting) → p (get_or xs at d) ≡ true)
+found_at p xs at found = by (nat_lt (position_or_len p xs) (length xs)) refl found
+  where
+    by : (b : Bool) → nat_lt (position_or_len p xs) (length xs) ≡ b → cond b (Some (position_or_len p xs)) None ≡ Some at → (at < length xs) × ((d : Waiting) → p (get_or xs at d) ≡ true)
+    by false q e = absurd (cc)
+    by true q e =
+      let same : position_or_len p xs ≡ at = cc in
+      let within = ltb-true (position_or_len p xs) (length xs) q in
+      (subst (λ n. n < length xs) same within, λ d. ap (λ n. p (get_or xs n d)) (sym same) ∙ passes_at_first p xs d within)
+
+-- as the caller sees the flight, and as the code keeps it
+pub record Sees (waiting : List Waiting) (before : Rules) (state : FlightState) (now : Rules) (group at : ℕ) (one : Waiting) : Type 0 where
+  pub is_flight : map flying waiting ≡ state.flight
+  pub is_before : before ≡ state.before
+  pub kept : IsFlight (group_count before) (map flying waiting)
+  pub there : at < length waiting
+  pub one_is : one ≡ get_or waiting at one
+  pub counted : (group_count before) ≡ (group_count now)
+  pub here : one.group ≡ group
+  pub vacant : NobodyAt (one.group + 1) (map flying waiting)
+
+pub sees : (waiting : List Waiting) (before : Rules) (state : FlightState) (now : Rules) (group at : ℕ) (one : Waiting) → state_of waiting before ≡ state → IsFlight (group_count before) (map flying waiting)
+    → position (λ (w : Waiting). w.group == group) waiting ≡ Some at → one ≡ get_or waiting at one → SameShape state.before now → NobodyAt (group + 1) state.flight → Sees waiting before state now group at one
+sees waiting before state now group at one v f found is same vacant =
+    let flight_is : map flying waiting ≡ state.flight = ap (λ (a : FlightState). a.flight) v in
+    let place = found_at (λ (w : Waiting). w.group == group) waiting at found in
+    let here : one.group ≡ group = eqb-true one.group group (ap (λ (w : Waiting). w.group == group) is ∙ place.1 one) in
+    record {
+      is_flight = flight_is; is_before = ap (λ (a : FlightState). a.before) v; kept = f;
+      there = place.0; one_is = is; counted = ap (λ (a : FlightState). group_count a.before) v ∙ count_same same;
+      here = here;
+      vacant = subst (λ g. NobodyAt (g + 1) (map flying waiting)) (sym here) (subst (NobodyAt (group + 1)) (sym flight_is) vacant) }
+
+pub seen_group : (waiting : List Waiting) (before : Rules) (state : FlightState) (now rules : Rules) (group at : ℕ) (one : Waiting) → Sees waiting before state now group at one → rules ≡ cond one.kept before now → one.group < (group_count rules)
+seen_group waiting before state now rules group at one s r = group_there before now rules waiting at one s.kept s.there s.one_is s.counted r
+
+pub seen_removed : (waiting items : List Waiting) (before : Rules) (state : FlightState) (now : Rules) (group at count : ℕ) (one : Waiting) (outs : Outs) → Sees waiting before state now group at one → items ≡ remove waiting at → count ≡ (group_count now) → one.group + 1 ≡ count → IsFlight (group_count before) (map flying items)
+seen_removed waiting items before state now group at count one outs s i c e =
+    subst (IsFlight (group_count before)) (sym (after_removed (group_count before) waiting items at one outs i (e ∙ c ∙ sym s.counted)))
+      (flight_after (group_count before) waiting at one outs s.kept s.vacant s.there s.one_is)
+
+pub seen_set : (waiting : List Waiting) (before : Rules) (state : FlightState) (now : Rules) (group at count : ℕ) (one : Waiting) (outs : Outs) → Sees waiting before state now group at one → count ≡ (group_count now) → one.group + 1 ≢ count → IsFlight (group_count before) (map flying (slice_set waiting at (next_of one outs)))
+seen_set waiting before state now group at count one outs s c ne =
+    subst (IsFlight (group_count before)) (sym (after_set (group_count before) waiting at one outs s.there (λ e. ne (e ∙ s.counted ∙ sym c))))
+      (flight_after (group_count before) waiting at one outs s.kept s.vacant s.there s.one_is)
+
+pub seen_moves : (waiting : List Waiting) (before : Rules) (state : FlightState) (now rules : Rules) (group at : ℕ) (one : Waiting) (outs : Outs) (new_flight : List (Flying Packet)) (contents new_contents : Option Contents) (list new_list : Option (List Call))
+    → Sees waiting before state now group at one → rules ≡ cond one.kept before now
+    → new_flight ≡ front_of waiting at ++ (if_left (group_count now) (flying (next_of one outs)) ++ back_of waiting at)
+    → Makes (group_calls rules one.group one.packet one.outs.carry) one.outs.carry outs.carry contents new_contents list new_list
+    → MovesOn (versions now state.before) group state.flight new_flight contents new_contents list new_list
+seen_moves waiting before state now rules group at one outs new_flight contents new_contents list new_list s r n m =
+    subst (λ b. MovesOn (versions now b) group state.flight new_flight contents new_contents list new_list) s.is_before
+      (subst (λ fs. MovesOn (versions now before) group fs new_flight contents new_contents list new_list) s.is_flight
+        (moves_on before now rules waiting group at one outs new_flight contents new_contents list new_list s.there s.one_is s.here r n m))
+
+pub seen_below : (waiting : List Waiting) (before : Rules) (state : FlightState) (now : Rules) (group at : ℕ) (one : Waiting) → Sees waiting before state now group at one → one.group < (group_count now)
+seen_below waiting before state now group at one s = subst (λ n. one.group < n) s.counted (falls_here (group_count before) (front_of waiting at) (flying one) (back_of waiting at) (subst (λ fs. IsFlight (group_count before) fs) (split waiting at one s.there s.one_is) s.kept).falls)
+
+-- ---- the first packet leaves
+
+flight_without : (count : ℕ) (front : List (Flying Packet)) (one : Flying Packet) (back : List (Flying Packet)) → IsFlight count (front ++ one ∷ back) → IsFlight count (front ++ back)
+flight_without count front one back f = record {
+  falls = falls_leave count front one back f.falls;
+  old_first = subst OldFirst (sym (map-append is_old front back)) (old_leave (map is_old front) one.kept (map is_old back) (subst OldFirst (map-append is_old front (one ∷ back)) f.old_first)) }
+
+pub first_gone : (count : ℕ) (waiting items : List Waiting) (one : Waiting) → IsFlight count (map flying waiting) → 0 < length waiting → one ≡ get_or waiting 0 one → items ≡ remove waiting 0 → IsFlight count (map flying items)
+first_gone count waiting items one f lt is i =
+    subst (IsFlight count) (sym (ap (map flying) i ∙ removed_is waiting 0))
+      (flight_without count (front_of waiting 0) (flying one) (back_of waiting 0) (subst (IsFlight count) (split waiting 0 one lt is) f))
+
+pub first_apart : (rules : Versions Packet) (flight : List (Flying Packet)) (contents : Contents) → drained rules contents flight ≡ drained rules contents (take 1 flight) ++ drained rules (all_made contents (drained rules contents (take 1 flight))) (drop 1 flight)
+first_apart rules flight contents = ap (drained rules contents) (sym (take-append-drop 1 flight)) ∙ drained_append rules contents (take 1 flight) (drop 1 flight)
+
+-- ---- the drain after an advance
+
+both_staged : (now before : Rules) → now.geometry ≡ before.geometry → BothStaged (group_number now.geometry) (versions now before)
+both_staged now before e = record { now = staged now; old = subst (λ (g : Geometry). AreStaged (group_number g) (stages_in before)) (sym e) (staged before) }
+
+pub drain_kept : (before now : Rules) (group : ℕ) (flight new_flight : List (Flying Packet)) (contents new_contents : Option Contents) (list new_list : Option (List Call)) → SameShape before now → IsFlight (group_count before) flight → MovesOn (versions now before) group flight new_flight contents new_contents list new_list
+    → Told (λ c d. drain (versions now before) d new_flight ≡ drain (versions now before) c flight) contents new_contents
+drain_kept before now group flight new_flight contents new_contents list new_list same f m =
+    let v = versions now before in
+    let falls : Falls (group_count now) (m.front ++ m.one ∷ m.back) = subst (λ n. Falls n (m.front ++ m.one ∷ m.back)) (count_same same) (subst (Falls (group_count before)) m.split f.falls) in
+    told_weaker contents new_contents (λ x y p.
+      let next : Flying Packet = record { packet = m.one.packet; group = m.one.group + 1; kept = m.one.kept; outs = m.outs } in
+      let is_next : next ≡ moved_on v x m.one = ap (λ (o : List ℕ). (let n : Flying Packet = record { packet = m.one.packet; group = m.one.group + 1; kept = m.one.kept; outs = o } in n)) p.1 in
+      ap₂ (drain v) p.0 m.new_split
+      ∙ ap (all_made (all_made x (calls_next v m.one))) (left_drained v (all_made x (calls_next v m.one)) m.front next m.back)
+      ∙ ap (λ n. drain v (all_made x (calls_next v m.one)) (m.front ++ n ∷ m.back)) is_next
+      ∙ advance_drain (group_number now.geometry) v x m.front m.one m.back (both_staged now before (sym same.geometry)) (falls_here (group_count now) m.front m.one m.back falls) (falls_above (group_count now) m.front m.one m.back falls)
+      ∙ ap (drain v x) (sym m.split)) m.makes.told
+
+-- ---- the old packets
+
+pub record OldHead (flight : List (Flying Packet)) : Type 0 where
+  pub some : 0 < length flight
+  pub olds : filter is_old flight ≡ take 1 flight ++ filter is_old (drop 1 flight)
+  pub presents : filter is_present (drop 1 flight) ≡ filter is_present flight
+
+pub old_head : (flight : List (Flying Packet)) → list_any is_old (take 1 flight) ≡ true → OldHead flight
+old_head [] h = absurd (cc)
+old_head (one ∷ others) h = by one.kept refl h
+  where
+    by : (b : Bool) → one.kept ≡ b → (b || false) ≡ true → OldHead (one ∷ others)
+    by true e g = record {
+      some = omega arith;
+      olds = ap (λ b. cond b (one ∷ filter is_old others) (filter is_old others)) e;
+      presents = sym (ap (λ b. cond (not b) (one ∷ filter is_present others) (filter is_present others)) e) }
+    by false e g = absurd (cc)
+
+none_old : (fs : List (Flying Packet)) → All (λ x. x ≡ false) (map is_old fs) → NoOld fs
+none_old [] a = record { olds = refl; presents = refl }
+none_old (f ∷ fs) a =
+    let rest = none_old fs (All-tail (λ x. x ≡ false) f.kept (map is_old fs) a) in
+    let e = All-head (λ x. x ≡ false) f.kept (map is_old fs) a in
+    record {
+      olds = ap (λ b. cond b (f ∷ filter is_old fs) (filter is_old fs)) e ∙ rest.olds;
+      presents = ap (λ b. cond (not b) (f ∷ filter is_present fs) (filter is_present fs)) e ∙ ap (λ gs. f ∷ gs) rest.presents }
+
+pub no_old : (flight : List (Flying Packet)) → OldFirst (map is_old flight) → list_any is_old (take 1 flight) ≡ false → NoOld flight
+no_old [] h n = record { olds = refl; presents = refl }
+no_old (one ∷ others) h n = by one.kept refl n
+  where
+    by : (b : Bool) → one.kept ≡ b → (b || false) ≡ false → NoOld (one ∷ others)
+    by true e g = absurd (cc)
+    by false e g = none_old (one ∷ others) (All-cons (λ x. x ≡ false) one.kept (map is_old others) e (h.0 e))
+
+pub kept_is : (waiting : List Waiting) → map flying (map kept_waiting waiting) ≡ map kept_now (map flying waiting)
+kept_is [] = refl
+kept_is (one ∷ waiting) = ap (λ fs. kept_now (flying one) ∷ fs) (kept_is waiting)
+
+pub flight_kept : (count : ℕ) (flight : List (Flying Packet)) → IsFlight count flight → IsFlight count (map kept_now flight)
+flight_kept count flight f = record { falls = falls_kept count flight f.falls; old_first = old_kept flight }
+
+pub old_none : (waiting : List Waiting) (before : Rules) (state : FlightState) (b : Bool) → state_of waiting before ≡ state → IsFlight (group_count before) (map flying waiting) → b ≡ list_any is_old (take 1 state.flight) → b ≡ false → NoOld state.flight
+old_none waiting before state b v f is n = no_old state.flight (subst IsInOrder v f).old_first (sym is ∙ n)
+
+pub kept_under : {one two : ℕ} {flight : List (Flying Packet)} → one ≡ two → IsFlight one flight → IsFlight two flight
+kept_under {one} {two} {flight} e f = subst (λ n. IsFlight n flight) e f
+
+-- ---- an advance, where the registers are told, is the schedule's step
+
+pub record IsAdvance (rules : Versions Packet) (group : ℕ) (flight new_flight : List (Flying Packet)) (old now : Contents) (calls : List Call) : Type 0 where
+  pub flight_is : new_flight ≡ passed_group rules old group flight
+  pub contents_are : now ≡ all_made old (calls_of_group rules group flight)
+  pub calls_are : calls ≡ calls_of_group rules group flight
+
+pub advance_is : (before now : Rules) (group : ℕ) (flight new_flight : List (Flying Packet)) (contents new_contents : Option Contents) (list new_list : Option (List Call)) → SameShape before now → IsFlight (group_count before) flight → (m : MovesOn (versions now before) group flight new_flight contents new_contents list new_list)
+    → Told (λ c d. IsAdvance (versions now before) m.one.group flight new_flight c d (calls_next (versions now before) m.one)) contents new_contents
+advance_is before now group flight new_flight contents new_contents list new_list same f m =
+    let v = versions now before in
+    let falls : Falls (group_count now) (m.front ++ m.one ∷ m.back) = subst (λ n. Falls n (m.front ++ m.one ∷ m.back)) (count_same same) (subst (Falls (group_count before)) m.split f.falls) in
+    let above = falls_above (group_count now) m.front m.one m.back falls in
+    let calls_same : calls_next v m.one ≡ calls_of_group v m.one.group flight = sym (ap (calls_of_group v m.one.group) m.split ∙ group_calls_of v m.front m.one m.back above) in
+    told_weaker contents new_contents (λ x y p.
+      let is_next : (let n : Flying Packet = record { packet = m.one.packet; group = m.one.group + 1; kept = m.one.kept; outs = m.outs } in n) ≡ moved_on v x m.one = ap (λ (o : List ℕ). (let n : Flying Packet = record { packet = m.one.packet; group = m.one.group + 1; kept = m.one.kept; outs = o } in n)) p.1 in
+      record {
+        flight_is = m.new_split ∙ ap (λ n. m.front ++ (if_left (group_count now) n ++ m.back)) is_next ∙ sym (ap (passed_group v x m.one.group) m.split ∙ group_passed v x m.front m.one m.back above);
+        contents_are = p.0 ∙ ap (all_made x) calls_same;
+        calls_are = calls_same }) m.makes.told
+
+-- ---- enter
+
+falls_length : (high : ℕ) (fs : List (Flying Packet)) → Falls high fs → length fs ≤ high
+falls_length high [] f = omega arith
+falls_length high (one ∷ fs) f = (let rest = falls_length one.group fs f.1 in omega (arith, f.0, rest))
+
+pub record Entered (waiting : List Waiting) (before : Rules) (state : FlightState) (packet : Packet) : Type 0 where
+  pub kept : IsFlight (group_count before) (map flying waiting ++ entering no_carries packet ∷ [])
+  pub room : length waiting < (group_count before)
+
+pub entered : (waiting : List Waiting) (before : Rules) (state : FlightState) (packet : Packet) → state_of waiting before ≡ state → IsFlight (group_count before) (map flying waiting) → 0 < (group_count state.before) → NobodyAt 0 state.flight → Entered waiting before state packet
+entered waiting before state packet v f some nobody =
+    let g : (group_count before) ≡ (group_count state.before) = ap (λ (a : FlightState). (group_count a.before)) v in
+    let fs = map flying waiting in
+    let falls = falls_enter (group_count before) fs no_carries packet (omega arith) f.falls (subst (λ (xs : List (Flying Packet)). NobodyAt 0 xs) (sym (ap (λ (a : FlightState). a.flight) v)) nobody) in
+    let l = falls_length (group_count before) (fs ++ entering no_carries packet ∷ []) falls in
+    record {
+      kept = record { falls = falls; old_first = subst OldFirst (sym (map-append is_old fs (entering no_carries packet ∷ []))) (old_push (map is_old fs) f.old_first) };
+      room = omega (arith, l, length-append fs (entering no_carries packet ∷ []), length-map waiting flying) }
+
+pub ok_not_err : {T E : Type 0} (r : Result T E) → IsOk r → is_err r ≡ true → ⊥
+ok_not_err (Ok x) o e = absurd (cc)
+ok_not_err (Err x) o e = false≢true o
+
+pub ok_if_not_err : {T E : Type 0} (r : Result T E) → is_err r ≡ false → is_ok r ≡ true
+ok_if_not_err (Ok x) e = refl
+ok_if_not_err (Err x) e = absurd (cc)
+
+pub pushed_is : (items new : List Waiting) (one : Waiting) (b : Bool) → b ≡ true → new ≡ cond b (items ++ one ∷ []) items → map flying new ≡ map flying items ++ flying one ∷ []
+pushed_is items new one b t e = ap (map flying) (e ∙ ap (λ c. cond c (items ++ one ∷ []) items) t) ∙ map-append flying items (one ∷ [])
+
+-- ---- who stands before a group
+
+abbrev waits_at : ℕ → Waiting → Bool
+waits_at group one = one.group == group
+
+nobody_waits : (group : ℕ) (waiting : List Waiting) → list_any (waits_at group) waiting ≡ false → NobodyAt group (map flying waiting)
+nobody_waits group [] none = All-nil (λ (f : Flying Packet). f.group ≢ group)
+nobody_waits group (one ∷ waiting) none =
+    let parts = or_false (waits_at group one) (list_any (waits_at group) waiting) none in
+    All-cons (λ (f : Flying Packet). f.group ≢ group) (flying one) (map flying waiting) (λ here. false≢true (sym parts.0 ∙ eq-eqb one.group group here)) (nobody_waits group waiting parts.1)
+
+none_waits : (group : ℕ) (waiting : List Waiting) → NobodyAt group (map flying waiting) → list_any (waits_at group) waiting ≡ false
+none_waits group [] nobody = refl
+none_waits group (one ∷ waiting) nobody =
+    let off = All-head (λ (f : Flying Packet). f.group ≢ group) (flying one) (map flying waiting) nobody in
+    let here : waits_at group one ≡ false = grind (arith, nat_tests) in
+    ap₂ (λ a b. a || b) here (none_waits group waiting (All-tail (λ (f : Flying Packet). f.group ≢ group) (flying one) (map flying waiting) nobody))
+
+pub vacant_is : (group : ℕ) (waiting : List Waiting) (before : Rules) (state : FlightState) (answer : Bool) → state_of waiting before ≡ state → answer ≡ not (list_any (waits_at group) waiting) → IsTrue answer ↔ NobodyAt group state.flight
+vacant_is group waiting before state answer v is =
+    let flight_is : map flying waiting ≡ state.flight = ap (λ (a : FlightState). a.flight) v in
+    (λ yes. subst (NobodyAt group) flight_is (nobody_waits group waiting (not_true (list_any (waits_at group) waiting) (sym is ∙ yes))),
+     λ nobody. is ∙ ap not (none_waits group waiting (subst (NobodyAt group) (sym flight_is) nobody)))
+  where
+    not_true : (b : Bool) → not b ≡ true → b ≡ false
+    not_true true e = absurd (cc)
+    not_true false e = refl
+
+pub nobody_found : (group : ℕ) (waiting seen : List Waiting) (before : Rules) (state : FlightState) (found : Option ℕ) → state_of waiting before ≡ state → seen ≡ waiting → found ≡ position (waits_at group) seen → found ≡ None → NobodyAt group state.flight
+nobody_found group waiting seen before state found v s f none =
+    subst (NobodyAt group) (ap (λ (a : FlightState). a.flight) v)
+      (nobody_waits group waiting
+        (by (nat_lt (position_or_len (waits_at group) waiting) (length waiting)) refl (sym (ap (position (waits_at group)) s) ∙ sym f ∙ none)))
+  where
+    by : (b : Bool) → nat_lt (position_or_len (waits_at group) waiting) (length waiting) ≡ b → cond b (Some (position_or_len (waits_at group) waiting)) None ≡ None → list_any (waits_at group) waiting ≡ false
+    by true q e = absurd (cc)
+    by false q e =
+      let all = ltb-false (position_or_len (waits_at group) waiting) (length waiting) q in
+      list_any_none (waits_at group) waiting (λ k d lt. fails_before_first (waits_at group) waiting k d (omega (arith, all)))
+
+pub found_in : (p : Waiting → Bool) (waiting seen : List Waiting) (found : Option ℕ) (at : ℕ) → found ≡ Some at → found ≡ position p seen → seen ≡ waiting → position p waiting ≡ Some at
+found_in p waiting seen found at is f s = sym (ap (position p) s) ∙ sym f ∙ is
+
+-- ---- the drain after a commit
+
+pub drain_committed : (before now : Rules) (flight new_flight : List (Flying Packet)) (contents new_contents : Option Contents) (list new_list : Option (List Call)) → OldFirst (map is_old flight) → new_flight ≡ map kept_now (filter is_present flight)
+    → MakesOver (λ c. drained (versions now before) c (filter is_old flight)) contents new_contents list new_list
+    → Told (λ c d. drain (versions now now) d new_flight ≡ drain (versions now before) c flight) contents new_contents
+drain_committed before now flight new_flight contents new_contents list new_list order f m =
+    let v = versions now before in
+    told_weaker contents new_contents (λ x y p.
+      let mid : y ≡ drain v x (filter is_old flight) = p.1 ∙ ap (all_made x) p.0 in
+      ap₂ (drain (versions now now)) mid f
+      ∙ ap (all_made (drain v x (filter is_old flight))) (commit_drained v (stages_in now) (drain v x (filter is_old flight)) (filter is_present flight) (all_present flight))
+      ∙ sym (drain_append v x (filter is_old flight) (filter is_present flight))
+      ∙ ap (drain v x) (sym (old_split flight order))) m.told
