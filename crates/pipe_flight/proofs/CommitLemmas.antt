@@ -50,8 +50,8 @@ kept_drained one two contents [] o c h = refl
 kept_drained {P} one two contents (f ∷ flight) o c h =
     let k = All-head (λ (f : Flying P). f.kept ≡ true) f flight h in
     let e : rest_of one contents f ≡ rest_of two contents f =
-      ap (λ b. flow (cond b one.old one.now) contents f.packet (one.count - f.group) f.group f.outs) k
-      ∙ ap₂ (λ s n. flow s contents f.packet (n - f.group) f.group f.outs) o c
-      ∙ ap (λ b. flow (cond b two.old two.now) contents f.packet (two.count - f.group) f.group f.outs) (sym k) in
+    ap (λ b. flow (cond b one.old one.now) contents f.packet (one.count - f.group) f.group f.outs) k
+    ∙ ap₂ (λ s n. flow s contents f.packet (n - f.group) f.group f.outs) o c
+    ∙ ap (λ b. flow (cond b two.old two.now) contents f.packet (two.count - f.group) f.group f.outs) (sym k) in
     ap (λ calls. calls ++ drained one (all_made contents calls) flight) e
     ∙ ap (λ calls. rest_of two contents f ++ calls) (kept_drained one two (all_made contents (rest_of two contents f)) flight o c (All-tail (λ (f : Flying P). f.kept ≡ true) f flight h))

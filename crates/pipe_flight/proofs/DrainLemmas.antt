@@ -45,7 +45,7 @@ enter_drained rules contents flight none packet =
     let whole : rules.count - 0 ≡ rules.count = omega arith in
     drained_append rules contents flight (entering none packet ∷ [])
     ∙ ap (λ calls. drained rules contents flight ++ calls)
-        (append-nil (flow rules.now (drain rules contents flight) packet (rules.count - 0) 0 none) ∙ ap (λ n. flow rules.now (drain rules contents flight) packet n 0 none) whole)
+    (append-nil (flow rules.now (drain rules contents flight) packet (rules.count - 0) 0 none) ∙ ap (λ n. flow rules.now (drain rules contents flight) packet n 0 none) whole)
 
 pub enter_drain : {P : Type 0} (rules : Versions P) (contents : Contents) (flight : List (Flying P)) (none : List ℕ) (packet : P)
     → drain rules contents (flight ++ entering none packet ∷ []) ≡ all_made (drain rules contents flight) (flow rules.now (drain rules contents flight) packet rules.count 0 none)
@@ -73,14 +73,14 @@ drained_same Place rules one two (f ∷ flight) r same =
     let e = rest_same Place rules one two f (All-head (Reaches Place rules) f flight r) same in
     ap (λ calls. calls ++ drained rules (all_made one calls) flight) e
     ∙ ap (λ calls. rest_of rules two f ++ calls)
-        (drained_same Place rules (all_made one (rest_of rules two f)) (all_made two (rest_of rules two f)) flight (All-tail (Reaches Place rules) f flight r) (same_made Place (rest_of rules two f) one two same))
+    (drained_same Place rules (all_made one (rest_of rules two f)) (all_made two (rest_of rules two f)) flight (All-tail (Reaches Place rules) f flight r) (same_made Place (rest_of rules two f) one two same))
 
 pub drained_at : {P : Type 0} (Place : ℕ → ℕ → Type 0) (rules : Versions P) (contents : Contents) (flight : List (Flying P)) → All (Reaches Place rules) flight → AreAt Place (drained rules contents flight)
 drained_at Place rules contents [] r = All-nil (λ (c : Call). Place c.array c.addr)
 drained_at Place rules contents (f ∷ flight) r =
     All-append (λ (c : Call). Place c.array c.addr) (rest_of rules contents f) (drained rules (all_made contents (rest_of rules contents f)) flight)
-      (rest_at Place rules contents f (All-head (Reaches Place rules) f flight r))
-      (drained_at Place rules (all_made contents (rest_of rules contents f)) flight (All-tail (Reaches Place rules) f flight r))
+    (rest_at Place rules contents f (All-head (Reaches Place rules) f flight r))
+    (drained_at Place rules (all_made contents (rest_of rules contents f)) flight (All-tail (Reaches Place rules) f flight r))
 
 -- ---- advance
 
@@ -98,8 +98,8 @@ stages_staged group_of rules one both = by one.kept
 pub reaches_from : {P : Type 0} (group_of : ℕ → ℕ) (rules : Versions P) (low : ℕ) (flight : List (Flying P)) → BothStaged group_of rules → All (λ (f : Flying P). low ≤ f.group) flight → All (Reaches (FromGroup group_of low) rules) flight
 reaches_from group_of rules low flight both above =
     All-weaker (λ f. low ≤ f.group) (Reaches (FromGroup group_of low) rules)
-      (λ f le. record { at = λ g o less. staged_from group_of (stages_of rules f) f.packet low (stages_staged group_of rules f both) g o (omega arith) })
-      flight above
+    (λ f le. record { at = λ g o less. staged_from group_of (stages_of rules f) f.packet low (stages_staged group_of rules f both) g o (omega arith) })
+    flight above
 
 -- the packet's next calls, and what those before it and it have still to do
 pub record Advances {P : Type 0} (rules : Versions P) (contents : Contents) (front : List (Flying P)) (one : Flying P) : Type 0 where
@@ -130,11 +130,12 @@ advances {P} group_of rules contents front one both lt above =
       front_same = front_same;
       after = after;
       rest =
-        rest_split stages mid one.packet (rules.count - g) m g one.outs (omega arith)
-        ∙ ap (λ o. here ++ flow stages mid one.packet m (g + 1) o) outs_same
-        ∙ ap (λ calls. here ++ calls)
-            (sym (flow_same Later stages (all_made mid here) mid one.packet m (g + 1) (handed contents here one.outs) (staged_from group_of stages one.packet (g + 1) staged) (same_after group_of g here mid at_here)))
-        ∙ ap (λ c. here ++ flow stages c one.packet m (g + 1) (handed contents here one.outs)) (sym after) }
+          rest_split stages mid one.packet (rules.count - g) m g one.outs (omega arith)
+          ∙ ap (λ o. here ++ flow stages mid one.packet m (g + 1) o) outs_same
+          ∙ ap (λ calls. here ++ calls)
+          (sym (flow_same Later stages (all_made mid here) mid one.packet m (g + 1) (handed contents here one.outs) (staged_from group_of stages one.packet (g + 1) staged) (same_after group_of g here mid at_here)))
+          ∙ ap (λ c. here ++ flow stages c one.packet m (g + 1) (handed contents here one.outs)) (sym after);
+    }
 
 -- an advance leaves the drain as it was
 pub advance_drain : {P : Type 0} (group_of : ℕ → ℕ) (rules : Versions P) (contents : Contents) (front : List (Flying P)) (one : Flying P) (back : List (Flying P)) → BothStaged group_of rules → one.group < rules.count → All (λ (f : Flying P). one.group + 1 ≤ f.group) front
@@ -167,13 +168,13 @@ advance_calls {P} group_of rules contents front one back array both lt above =
     let reach = reaches_from group_of rules (one.group + 1) front both above in
     let last = drained rules (all_made mid_after rest) back in
     let last_same : drained rules (all_made mid (rest_of rules mid one)) back ≡ last =
-      ap (λ c. drained rules c back) (ap (all_made mid) a.rest ∙ fold-append made mid here rest ∙ ap (λ c. all_made c rest) (sym a.after)) in
+    ap (λ c. drained rules c back) (ap (all_made mid) a.rest ∙ fold-append made mid here rest ∙ ap (λ c. all_made c rest) (sym a.after)) in
     let new : drained rules (all_made contents here) (front ++ next ∷ back) ≡ others ++ (rest ++ last) =
-      drained_append rules (all_made contents here) front (next ∷ back) ∙ ap (λ calls. calls ++ (rest ++ last)) a.front_same in
+    drained_append rules (all_made contents here) front (next ∷ back) ∙ ap (λ calls. calls ++ (rest ++ last)) a.front_same in
     let was : drained rules contents (front ++ one ∷ back) ≡ others ++ ((here ++ rest) ++ last) =
-      drained_append rules contents front (one ∷ back)
-      ∙ ap (λ calls. others ++ (rest_of rules mid one ++ calls)) last_same
-      ∙ ap (λ calls. others ++ (calls ++ last)) a.rest in
+    drained_append rules contents front (one ∷ back)
+    ∙ ap (λ calls. others ++ (rest_of rules mid one ++ calls)) last_same
+    ∙ ap (λ calls. others ++ (calls ++ last)) a.rest in
     ap (λ calls. filter (is_on array) (here ++ calls)) new
     ∙ ap (filter (is_on array)) (sym (append_assoc here others (rest ++ last)))
     ∙ filter-append (is_on array) (here ++ others) (rest ++ last)

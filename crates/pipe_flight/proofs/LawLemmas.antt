@@ -26,7 +26,14 @@ use Rattle.pipe_flight.proofs.GroupLemmas.{trace_enter, trace_advance, trace_cha
 
 agree_first : {P : Type 0} (group_of : ℕ → ℕ) (count : ℕ) (now : Stages P) (contents : Contents) → 0 < count → AreStaged group_of now → Agrees group_of (first_moment count now contents) (first_serial now contents)
 agree_first group_of count now contents some staged = record {
-  some = some; now_staged = staged; old_staged = staged; flight = record { falls = tt; old_first = tt }; now = refl; contents = refl; calls = λ array. refl }
+  some = some;
+  now_staged = staged;
+  old_staged = staged;
+  flight = record { falls = tt; old_first = tt };
+  now = refl;
+  contents = refl;
+  calls = λ array. refl;
+}
 
 pub serial_order : {P : Type 0} → KeepsSerialOrder P
 serial_order group_of none count now contents schedule some staged meet =
@@ -37,7 +44,8 @@ serial_order group_of none count now contents schedule some staged meet =
       front = λ array. calls_in_front group_of m s array a;
       drained_is = a.contents;
       calls_at_end = λ e. (equal_at_end group_of m s a e).1;
-      contents_at_end = λ e. (equal_at_end group_of m s a e).0 }
+      contents_at_end = λ e. (equal_at_end group_of m s a e).0;
+    }
 
 trace_step : {P : Type 0} (group_of : ℕ → ℕ) (start : Contents) (none : List ℕ) (m : Moment P) (s : Serial P) (trace : List Item) (step : Step P) → Agrees group_of m s → Meets group_of m step → IsFine m step → Traced group_of start m trace → Traced group_of start (moment_after none m step) (trace_after m.rules.count none s trace step)
 trace_step group_of start none m s trace (Enter packet) a meets fine t = trace_enter group_of start none m s trace packet a t
@@ -51,9 +59,9 @@ trace_all : {P : Type 0} (group_of : ℕ → ℕ) (start : Contents) (none : Lis
 trace_all group_of start none count [] m s trace c a t meet fine = t
 trace_all group_of start none count (step ∷ steps) m s trace c a t meet fine =
     trace_all group_of start none count steps (moment_after none m step) (serial_after count none s step) (trace_after count none s trace step) (count_stays none m step ∙ c)
-      (subst (λ n. Agrees group_of (moment_after none m step) (serial_after n none s step)) c (agree_step group_of none m s step a meet.0))
-      (subst (λ n. Traced group_of start (moment_after none m step) (trace_after n none s trace step)) c (trace_step group_of start none m s trace step a meet.0 fine.0 t))
-      meet.1 fine.1
+    (subst (λ n. Agrees group_of (moment_after none m step) (serial_after n none s step)) c (agree_step group_of none m s step a meet.0))
+    (subst (λ n. Traced group_of start (moment_after none m step) (trace_after n none s trace step)) c (trace_step group_of start none m s trace step a meet.0 fine.0 t))
+    meet.1 fine.1
 
 count_all : {P : Type 0} (none : List ℕ) (schedule : List (Step P)) (m : Moment P) → (ran none m schedule).rules.count ≡ m.rules.count
 count_all none [] m = refl
@@ -63,7 +71,7 @@ pub group_order : {P : Type 0} → KeepsGroupOrder P
 group_order group_of none count now contents schedule some staged meet fine =
     let m = first_moment count now contents in
     let t = trace_all group_of contents none count schedule m (first_serial now contents) [] refl (agree_first group_of count now contents some staged)
-      (record { backward = []; order = refl; follows = tt; groups = λ a i lt. refl }) meet fine in
+    (record { backward = []; order = refl; follows = tt; groups = λ a i lt. refl }) meet fine in
     λ a i lt. t.groups a i (subst (λ n. group_of a < n) (sym (count_all none schedule m)) lt)
 
 -- ---- the registers that packets in flight will leave
@@ -78,16 +86,16 @@ olds_reach {P} rules fill (one ∷ flight) olds avoids =
     let Off : ℕ → ℕ → Type 0 = λ a i. fill.test a i ≡ false in
     let kept = All-head (λ (one : Flying P). one.kept ≡ true) one flight olds in
     All-cons (Reaches Off rules) one flight
-      (record { at = λ g o le. subst (λ (b : Bool). AreAt Off ((cond b rules.old rules.now) g one.packet o)) (sym kept) (avoids g one.packet o) })
-      (olds_reach rules fill flight (All-tail (λ (one : Flying P). one.kept ≡ true) one flight olds) avoids)
+    (record { at = λ g o le. subst (λ (b : Bool). AreAt Off ((cond b rules.old rules.now) g one.packet o)) (sym kept) (avoids g one.packet o) })
+    (olds_reach rules fill flight (All-tail (λ (one : Flying P). one.kept ≡ true) one flight olds) avoids)
 
 pub fill_drain : {P : Type 0} → DrainsFilled P
 fill_drain rules next fill contents flight olds avoids =
     let Off : ℕ → ℕ → Type 0 = λ a i. fill.test a i ≡ false in
     let reach = olds_reach rules fill flight olds avoids in
     let same : drained (with_now rules next) (filled fill contents) flight ≡ drained rules contents flight =
-      kept_drained (with_now rules next) rules (filled fill contents) flight refl refl olds
-      ∙ drained_same Off rules (filled fill contents) contents flight reach (record { same = λ x y off. ap (λ b. cond b (fill.value x y) (contents x y)) off }) in
+    kept_drained (with_now rules next) rules (filled fill contents) flight refl refl olds
+    ∙ drained_same Off rules (filled fill contents) contents flight reach (record { same = λ x y off. ap (λ b. cond b (fill.value x y) (contents x y)) off }) in
     ap (all_made (filled fill contents)) same
     ∙ fill_past fill contents (drained rules contents flight) (drained_at Off rules contents flight reach)
 
@@ -119,9 +127,9 @@ next_calls group_of rules contents one calls both lt is =
     let rest = flow stages contents one.packet m (one.group + 1) (handed contents here one.outs) in
     let test = is_in group_of one.group in
     sym (ap (filter test) (is.whole ∙ ap (λ k. is.done ++ flow stages contents one.packet k one.group one.outs) n)
-      ∙ filter-append test is.done (here ++ rest)
-      ∙ ap (λ cs. cs ++ filter test (here ++ rest)) (none_in group_of one.group (λ g. g < one.group) is.done is.behind (λ l. omega arith))
-      ∙ filter-append test here rest
-      ∙ ap₂ (λ xs ys. xs ++ ys) (all_in group_of one.group here (staged.there one.group one.packet one.outs))
-          (none_in group_of one.group (λ g. one.group + 1 ≤ g) rest (flow_at (FromGroup group_of (one.group + 1)) stages contents one.packet m (one.group + 1) (handed contents here one.outs) (staged_from group_of stages one.packet (one.group + 1) staged)) (λ l. omega arith))
-      ∙ append-nil here)
+    ∙ filter-append test is.done (here ++ rest)
+    ∙ ap (λ cs. cs ++ filter test (here ++ rest)) (none_in group_of one.group (λ g. g < one.group) is.done is.behind (λ l. omega arith))
+    ∙ filter-append test here rest
+    ∙ ap₂ (λ xs ys. xs ++ ys) (all_in group_of one.group here (staged.there one.group one.packet one.outs))
+    (none_in group_of one.group (λ g. one.group + 1 ≤ g) rest (flow_at (FromGroup group_of (one.group + 1)) stages contents one.packet m (one.group + 1) (handed contents here one.outs) (staged_from group_of stages one.packet (one.group + 1) staged)) (λ l. omega arith))
+    ∙ append-nil here)

@@ -1,9 +1,9 @@
 -- The packets in flight, as code keeps them.
-use Rattle.std.proofs.Common.{◌≡◌, ◌≢◌, ℕ, zero, suc, ◌+◌, ◌-◌, ◌/◌, ◌<◌, ◌≤◌, Bool, true, false, not, cond, filter, List, [], ◌∷◌, ◌++◌, length, get_or, take, drop, map, refl, ap, ap₂, sym, ◌∙◌, subst, arith, eq-eqb}
+use Rattle.std.proofs.Common.{◌≡◌, ◌≢◌, ℕ, zero, suc, ◌+◌, ◌-◌, ◌/◌, ◌<◌, ◌≤◌, Bool, true, false, not, cond, filter, List, [], ◌∷◌, ◌++◌, length, get_or, take, drop, map, refl, ap, ap₂, sym, ◌∙◌, subst, arith, eq-eqb, ⊎_elim}
 use Rattle.std.specs.Prelude.{Result, Ok, Err, IsOk, is_ok, is_err, IsTrue, ◌↔◌, nat_lt, Option, Some, None, ◌==◌, ◌||◌, slice_set}
 use Rattle.std.proofs.lemmas.List.Elements.{All-nil, All-head, All-tail, All-cons}
 use Rattle.std.specs.List.{All, remove, list_any, position, position_or_len}
-use Rattle.std.proofs.lemmas.Bool.{false≢true, eqb-true, ltb-true, ltb-false}
+use Rattle.std.proofs.lemmas.Bool.{false≢true, cases_lt, eqb-true, ltb-true, ltb-false}
 use Rattle.std.proofs.lemmas.List.Sums.{passes_at_first, fails_before_first}
 use Rattle.std.proofs.lemmas.List.Folds.{list_any_none}
 use Rattle.addr_translate.specs.Geometry.{Geometry, group_number}
@@ -86,8 +86,8 @@ pub flight_after : (count : ℕ) (waiting : List Waiting) (at : ℕ) (one : Wait
 flight_after count waiting at one outs f vacant lt is =
     let e = split waiting at one lt is in
     left_flight count (front_of waiting at) (flying one) (flying (next_of one outs)) (back_of waiting at) refl refl
-      (subst (IsFlight count) e f)
-      (nobody_front (one.group + 1) (front_of waiting at) (flying one ∷ back_of waiting at) (subst (NobodyAt (one.group + 1)) e vacant))
+    (subst (IsFlight count) e f)
+    (nobody_front (one.group + 1) (front_of waiting at) (flying one ∷ back_of waiting at) (subst (NobodyAt (one.group + 1)) e vacant))
 
 pub after_removed : (count : ℕ) (waiting items : List Waiting) (at : ℕ) (one : Waiting) (outs : Outs) → items ≡ take at waiting ++ drop (suc at) waiting → one.group + 1 ≡ count
     → map flying items ≡ front_of waiting at ++ (if_left count (flying (next_of one outs)) ++ back_of waiting at)
@@ -103,12 +103,15 @@ pub moves_on : (before now rules : Rules) (waiting : List Waiting) (group at : �
     → Makes (group_calls rules one.group one.packet one.outs.carry) one.outs.carry outs.carry contents new_contents list new_list
     → MovesOn (versions now before) group (map flying waiting) new_flight contents new_contents list new_list
 moves_on before now rules waiting group at one outs new_flight contents new_contents list new_list lt is here r n m = record {
-  front = front_of waiting at; one = flying one; back = back_of waiting at;
+  front = front_of waiting at;
+  one = flying one;
+  back = back_of waiting at;
   split = split waiting at one lt is;
   here = here;
   outs = outs.carry;
   new_split = n;
-  makes = subst (λ calls. Makes calls one.outs.carry outs.carry contents new_contents list new_list) (calls_there before now rules one r) m }
+  makes = subst (λ calls. Makes calls one.outs.carry outs.carry contents new_contents list new_list) (calls_there before now rules one r) m;
+}
 
 pub count_same : {one two : Rules} → SameShape one two → group_count one ≡ group_count two
 count_same same = ap (λ (g : Geometry). length g.groups) same.geometry
@@ -120,9 +123,9 @@ found_at p xs at found = by (nat_lt (position_or_len p xs) (length xs)) refl fou
     by : (b : Bool) → nat_lt (position_or_len p xs) (length xs) ≡ b → cond b (Some (position_or_len p xs)) None ≡ Some at → (at < length xs) × ((d : Waiting) → p (get_or xs at d) ≡ true)
     by false q e = absurd (cc)
     by true q e =
-      let same : position_or_len p xs ≡ at = cc in
-      let within = ltb-true (position_or_len p xs) (length xs) q in
-      (subst (λ n. n < length xs) same within, λ d. ap (λ n. p (get_or xs n d)) (sym same) ∙ passes_at_first p xs d within)
+        let same : position_or_len p xs ≡ at = cc in
+        let within = ltb-true (position_or_len p xs) (length xs) q in
+        (subst (λ n. n < length xs) same within, λ d. ap (λ n. p (get_or xs n d)) (sym same) ∙ passes_at_first p xs d within)
 
 -- as the caller sees the flight, and as the code keeps it
 pub record Sees (waiting : List Waiting) (before : Rules) (state : FlightState) (now : Rules) (group at : ℕ) (one : Waiting) : Type 0 where
@@ -135,17 +138,33 @@ pub record Sees (waiting : List Waiting) (before : Rules) (state : FlightState) 
   pub here : one.group ≡ group
   pub vacant : NobodyAt (one.group + 1) (map flying waiting)
 
+-- nobody stands behind the last group
+nobody_past : (high group : ℕ) (flight : List (Flying Packet)) → high ≤ group → Falls high flight → NobodyAt group flight
+nobody_past high group [] le falls = All-nil (λ (f : Flying Packet). f.group ≢ group)
+nobody_past high group (one ∷ flight) le falls =
+    All-cons (λ (f : Flying Packet). f.group ≢ group) one flight (λ same. omega (arith, falls.0)) (nobody_past one.group group flight (omega (arith, falls.0)) falls.1)
+
 pub sees : (waiting : List Waiting) (before : Rules) (state : FlightState) (now : Rules) (group at : ℕ) (one : Waiting) → state_of waiting before ≡ state → IsFlight (group_count before) (map flying waiting)
-    → position (λ (w : Waiting). w.group == group) waiting ≡ Some at → one ≡ get_or waiting at one → SameShape state.before now → NobodyAt (group + 1) state.flight → Sees waiting before state now group at one
+    → position (λ (w : Waiting). w.group == group) waiting ≡ Some at → one ≡ get_or waiting at one → SameShape state.before now → (group + 1 < group_count now → NobodyAt (group + 1) state.flight) → Sees waiting before state now group at one
 sees waiting before state now group at one v f found is same vacant =
     let flight_is : map flying waiting ≡ state.flight = ap (λ (a : FlightState). a.flight) v in
     let place = found_at (λ (w : Waiting). w.group == group) waiting at found in
     let here : one.group ≡ group = eqb-true one.group group (ap (λ (w : Waiting). w.group == group) is ∙ place.1 one) in
+    let counted : group_count before ≡ group_count now = ap (λ (a : FlightState). group_count a.before) v ∙ count_same same in
+    let next : NobodyAt (group + 1) state.flight =
+    ⊎_elim vacant
+    (λ (past : group_count now ≤ group + 1). subst (NobodyAt (group + 1)) flight_is (nobody_past (group_count before) (group + 1) (map flying waiting) (omega (arith, counted)) f.falls))
+    (cases_lt (group + 1) (group_count now)) in
     record {
-      is_flight = flight_is; is_before = ap (λ (a : FlightState). a.before) v; kept = f;
-      there = place.0; one_is = is; counted = ap (λ (a : FlightState). group_count a.before) v ∙ count_same same;
+      is_flight = flight_is;
+      is_before = ap (λ (a : FlightState). a.before) v;
+      kept = f;
+      there = place.0;
+      one_is = is;
+      counted = counted;
       here = here;
-      vacant = subst (λ g. NobodyAt (g + 1) (map flying waiting)) (sym here) (subst (NobodyAt (group + 1)) (sym flight_is) vacant) }
+      vacant = subst (λ g. NobodyAt (g + 1) (map flying waiting)) (sym here) (subst (NobodyAt (group + 1)) (sym flight_is) next);
+    }
 
 pub seen_group : (waiting : List Waiting) (before : Rules) (state : FlightState) (now rules : Rules) (group at : ℕ) (one : Waiting) → Sees waiting before state now group at one → rules ≡ cond one.kept before now → one.group < (group_count rules)
 seen_group waiting before state now rules group at one s r = group_there before now rules waiting at one s.kept s.there s.one_is s.counted r
@@ -153,12 +172,12 @@ seen_group waiting before state now rules group at one s r = group_there before 
 pub seen_removed : (waiting items : List Waiting) (before : Rules) (state : FlightState) (now : Rules) (group at count : ℕ) (one : Waiting) (outs : Outs) → Sees waiting before state now group at one → items ≡ remove waiting at → count ≡ (group_count now) → one.group + 1 ≡ count → IsFlight (group_count before) (map flying items)
 seen_removed waiting items before state now group at count one outs s i c e =
     subst (IsFlight (group_count before)) (sym (after_removed (group_count before) waiting items at one outs i (e ∙ c ∙ sym s.counted)))
-      (flight_after (group_count before) waiting at one outs s.kept s.vacant s.there s.one_is)
+    (flight_after (group_count before) waiting at one outs s.kept s.vacant s.there s.one_is)
 
 pub seen_set : (waiting : List Waiting) (before : Rules) (state : FlightState) (now : Rules) (group at count : ℕ) (one : Waiting) (outs : Outs) → Sees waiting before state now group at one → count ≡ (group_count now) → one.group + 1 ≢ count → IsFlight (group_count before) (map flying (slice_set waiting at (next_of one outs)))
 seen_set waiting before state now group at count one outs s c ne =
     subst (IsFlight (group_count before)) (sym (after_set (group_count before) waiting at one outs s.there (λ e. ne (e ∙ s.counted ∙ sym c))))
-      (flight_after (group_count before) waiting at one outs s.kept s.vacant s.there s.one_is)
+    (flight_after (group_count before) waiting at one outs s.kept s.vacant s.there s.one_is)
 
 pub seen_moves : (waiting : List Waiting) (before : Rules) (state : FlightState) (now rules : Rules) (group at : ℕ) (one : Waiting) (outs : Outs) (new_flight : List (Flying Packet)) (contents new_contents : Option Contents) (list new_list : Option (List Call))
     → Sees waiting before state now group at one → rules ≡ cond one.kept before now
@@ -167,8 +186,8 @@ pub seen_moves : (waiting : List Waiting) (before : Rules) (state : FlightState)
     → MovesOn (versions now state.before) group state.flight new_flight contents new_contents list new_list
 seen_moves waiting before state now rules group at one outs new_flight contents new_contents list new_list s r n m =
     subst (λ b. MovesOn (versions now b) group state.flight new_flight contents new_contents list new_list) s.is_before
-      (subst (λ fs. MovesOn (versions now before) group fs new_flight contents new_contents list new_list) s.is_flight
-        (moves_on before now rules waiting group at one outs new_flight contents new_contents list new_list s.there s.one_is s.here r n m))
+    (subst (λ fs. MovesOn (versions now before) group fs new_flight contents new_contents list new_list) s.is_flight
+    (moves_on before now rules waiting group at one outs new_flight contents new_contents list new_list s.there s.one_is s.here r n m))
 
 pub seen_below : (waiting : List Waiting) (before : Rules) (state : FlightState) (now : Rules) (group at : ℕ) (one : Waiting) → Sees waiting before state now group at one → one.group < (group_count now)
 seen_below waiting before state now group at one s = subst (λ n. one.group < n) s.counted (falls_here (group_count before) (front_of waiting at) (flying one) (back_of waiting at) (subst (λ fs. IsFlight (group_count before) fs) (split waiting at one s.there s.one_is) s.kept).falls)
@@ -178,12 +197,13 @@ seen_below waiting before state now group at one s = subst (λ n. one.group < n)
 flight_without : (count : ℕ) (front : List (Flying Packet)) (one : Flying Packet) (back : List (Flying Packet)) → IsFlight count (front ++ one ∷ back) → IsFlight count (front ++ back)
 flight_without count front one back f = record {
   falls = falls_leave count front one back f.falls;
-  old_first = subst OldFirst (sym (map-append is_old front back)) (old_leave (map is_old front) one.kept (map is_old back) (subst OldFirst (map-append is_old front (one ∷ back)) f.old_first)) }
+  old_first = subst OldFirst (sym (map-append is_old front back)) (old_leave (map is_old front) one.kept (map is_old back) (subst OldFirst (map-append is_old front (one ∷ back)) f.old_first));
+}
 
 pub first_gone : (count : ℕ) (waiting items : List Waiting) (one : Waiting) → IsFlight count (map flying waiting) → 0 < length waiting → one ≡ get_or waiting 0 one → items ≡ remove waiting 0 → IsFlight count (map flying items)
 first_gone count waiting items one f lt is i =
     subst (IsFlight count) (sym (ap (map flying) i ∙ removed_is waiting 0))
-      (flight_without count (front_of waiting 0) (flying one) (back_of waiting 0) (subst (IsFlight count) (split waiting 0 one lt is) f))
+    (flight_without count (front_of waiting 0) (flying one) (back_of waiting 0) (subst (IsFlight count) (split waiting 0 one lt is) f))
 
 pub first_apart : (rules : Versions Packet) (flight : List (Flying Packet)) (contents : Contents) → drained rules contents flight ≡ drained rules contents (take 1 flight) ++ drained rules (all_made contents (drained rules contents (take 1 flight))) (drop 1 flight)
 first_apart rules flight contents = ap (drained rules contents) (sym (take-append-drop 1 flight)) ∙ drained_append rules contents (take 1 flight) (drop 1 flight)
@@ -199,13 +219,13 @@ drain_kept before now group flight new_flight contents new_contents list new_lis
     let v = versions now before in
     let falls : Falls (group_count now) (m.front ++ m.one ∷ m.back) = subst (λ n. Falls n (m.front ++ m.one ∷ m.back)) (count_same same) (subst (Falls (group_count before)) m.split f.falls) in
     told_weaker contents new_contents (λ x y p.
-      let next : Flying Packet = record { packet = m.one.packet; group = m.one.group + 1; kept = m.one.kept; outs = m.outs } in
-      let is_next : next ≡ moved_on v x m.one = ap (λ (o : List ℕ). (let n : Flying Packet = record { packet = m.one.packet; group = m.one.group + 1; kept = m.one.kept; outs = o } in n)) p.1 in
-      ap₂ (drain v) p.0 m.new_split
-      ∙ ap (all_made (all_made x (calls_next v m.one))) (left_drained v (all_made x (calls_next v m.one)) m.front next m.back)
-      ∙ ap (λ n. drain v (all_made x (calls_next v m.one)) (m.front ++ n ∷ m.back)) is_next
-      ∙ advance_drain (group_number now.geometry) v x m.front m.one m.back (both_staged now before (sym same.geometry)) (falls_here (group_count now) m.front m.one m.back falls) (falls_above (group_count now) m.front m.one m.back falls)
-      ∙ ap (drain v x) (sym m.split)) m.makes.told
+    let next : Flying Packet = record { packet = m.one.packet; group = m.one.group + 1; kept = m.one.kept; outs = m.outs } in
+    let is_next : next ≡ moved_on v x m.one = ap (λ (o : List ℕ). (let n : Flying Packet = record { packet = m.one.packet; group = m.one.group + 1; kept = m.one.kept; outs = o } in n)) p.1 in
+    ap₂ (drain v) p.0 m.new_split
+    ∙ ap (all_made (all_made x (calls_next v m.one))) (left_drained v (all_made x (calls_next v m.one)) m.front next m.back)
+    ∙ ap (λ n. drain v (all_made x (calls_next v m.one)) (m.front ++ n ∷ m.back)) is_next
+    ∙ advance_drain (group_number now.geometry) v x m.front m.one m.back (both_staged now before (sym same.geometry)) (falls_here (group_count now) m.front m.one m.back falls) (falls_above (group_count now) m.front m.one m.back falls)
+    ∙ ap (drain v x) (sym m.split)) m.makes.told
 
 -- ---- the old packets
 
@@ -222,7 +242,8 @@ old_head (one ∷ others) h = by one.kept refl h
     by true e g = record {
       some = omega arith;
       olds = ap (λ b. cond b (one ∷ filter is_old others) (filter is_old others)) e;
-      presents = sym (ap (λ b. cond (not b) (one ∷ filter is_present others) (filter is_present others)) e) }
+      presents = sym (ap (λ b. cond (not b) (one ∷ filter is_present others) (filter is_present others)) e);
+    }
     by false e g = absurd (cc)
 
 none_old : (fs : List (Flying Packet)) → All (λ x. x ≡ false) (map is_old fs) → NoOld fs
@@ -232,7 +253,8 @@ none_old (f ∷ fs) a =
     let e = All-head (λ x. x ≡ false) f.kept (map is_old fs) a in
     record {
       olds = ap (λ b. cond b (f ∷ filter is_old fs) (filter is_old fs)) e ∙ rest.olds;
-      presents = ap (λ b. cond (not b) (f ∷ filter is_present fs) (filter is_present fs)) e ∙ ap (λ gs. f ∷ gs) rest.presents }
+      presents = ap (λ b. cond (not b) (f ∷ filter is_present fs) (filter is_present fs)) e ∙ ap (λ gs. f ∷ gs) rest.presents;
+    }
 
 pub no_old : (flight : List (Flying Packet)) → OldFirst (map is_old flight) → list_any is_old (take 1 flight) ≡ false → NoOld flight
 no_old [] h n = record { olds = refl; presents = refl }
@@ -270,11 +292,12 @@ advance_is before now group flight new_flight contents new_contents list new_lis
     let above = falls_above (group_count now) m.front m.one m.back falls in
     let calls_same : calls_next v m.one ≡ calls_of_group v m.one.group flight = sym (ap (calls_of_group v m.one.group) m.split ∙ group_calls_of v m.front m.one m.back above) in
     told_weaker contents new_contents (λ x y p.
-      let is_next : (let n : Flying Packet = record { packet = m.one.packet; group = m.one.group + 1; kept = m.one.kept; outs = m.outs } in n) ≡ moved_on v x m.one = ap (λ (o : List ℕ). (let n : Flying Packet = record { packet = m.one.packet; group = m.one.group + 1; kept = m.one.kept; outs = o } in n)) p.1 in
-      record {
-        flight_is = m.new_split ∙ ap (λ n. m.front ++ (if_left (group_count now) n ++ m.back)) is_next ∙ sym (ap (passed_group v x m.one.group) m.split ∙ group_passed v x m.front m.one m.back above);
-        contents_are = p.0 ∙ ap (all_made x) calls_same;
-        calls_are = calls_same }) m.makes.told
+    let is_next : (let n : Flying Packet = record { packet = m.one.packet; group = m.one.group + 1; kept = m.one.kept; outs = m.outs } in n) ≡ moved_on v x m.one = ap (λ (o : List ℕ). (let n : Flying Packet = record { packet = m.one.packet; group = m.one.group + 1; kept = m.one.kept; outs = o } in n)) p.1 in
+    record {
+      flight_is = m.new_split ∙ ap (λ n. m.front ++ (if_left (group_count now) n ++ m.back)) is_next ∙ sym (ap (passed_group v x m.one.group) m.split ∙ group_passed v x m.front m.one m.back above);
+      contents_are = p.0 ∙ ap (all_made x) calls_same;
+      calls_are = calls_same;
+    }) m.makes.told
 
 -- ---- enter
 
@@ -294,7 +317,8 @@ entered waiting before state packet v f some nobody =
     let l = falls_length (group_count before) (fs ++ entering no_carries packet ∷ []) falls in
     record {
       kept = record { falls = falls; old_first = subst OldFirst (sym (map-append is_old fs (entering no_carries packet ∷ []))) (old_push (map is_old fs) f.old_first) };
-      room = omega (arith, l, length-append fs (entering no_carries packet ∷ []), length-map waiting flying) }
+      room = omega (arith, l, length-append fs (entering no_carries packet ∷ []), length-map waiting flying);
+    }
 
 pub ok_not_err : {T E : Type 0} (r : Result T E) → IsOk r → is_err r ≡ true → ⊥
 ok_not_err (Ok x) o e = absurd (cc)
@@ -327,9 +351,10 @@ none_waits group (one ∷ waiting) nobody =
 
 pub vacant_is : (group : ℕ) (waiting : List Waiting) (before : Rules) (state : FlightState) (answer : Bool) → state_of waiting before ≡ state → answer ≡ not (list_any (waits_at group) waiting) → IsTrue answer ↔ NobodyAt group state.flight
 vacant_is group waiting before state answer v is =
-    let flight_is : map flying waiting ≡ state.flight = ap (λ (a : FlightState). a.flight) v in
-    (λ yes. subst (NobodyAt group) flight_is (nobody_waits group waiting (not_true (list_any (waits_at group) waiting) (sym is ∙ yes))),
-     λ nobody. is ∙ ap not (none_waits group waiting (subst (NobodyAt group) (sym flight_is) nobody)))
+    let flight_is : map flying waiting ≡ state.flight = ap (λ (a : FlightState). a.flight) v in (
+      λ yes. subst (NobodyAt group) flight_is (nobody_waits group waiting (not_true (list_any (waits_at group) waiting) (sym is ∙ yes))),
+      λ nobody. is ∙ ap not (none_waits group waiting (subst (NobodyAt group) (sym flight_is) nobody)),
+    )
   where
     not_true : (b : Bool) → not b ≡ true → b ≡ false
     not_true true e = absurd (cc)
@@ -338,14 +363,14 @@ vacant_is group waiting before state answer v is =
 pub nobody_found : (group : ℕ) (waiting seen : List Waiting) (before : Rules) (state : FlightState) (found : Option ℕ) → state_of waiting before ≡ state → seen ≡ waiting → found ≡ position (waits_at group) seen → found ≡ None → NobodyAt group state.flight
 nobody_found group waiting seen before state found v s f none =
     subst (NobodyAt group) (ap (λ (a : FlightState). a.flight) v)
-      (nobody_waits group waiting
-        (by (nat_lt (position_or_len (waits_at group) waiting) (length waiting)) refl (sym (ap (position (waits_at group)) s) ∙ sym f ∙ none)))
+    (nobody_waits group waiting
+    (by (nat_lt (position_or_len (waits_at group) waiting) (length waiting)) refl (sym (ap (position (waits_at group)) s) ∙ sym f ∙ none)))
   where
     by : (b : Bool) → nat_lt (position_or_len (waits_at group) waiting) (length waiting) ≡ b → cond b (Some (position_or_len (waits_at group) waiting)) None ≡ None → list_any (waits_at group) waiting ≡ false
     by true q e = absurd (cc)
     by false q e =
-      let all = ltb-false (position_or_len (waits_at group) waiting) (length waiting) q in
-      list_any_none (waits_at group) waiting (λ k d lt. fails_before_first (waits_at group) waiting k d (omega (arith, all)))
+        let all = ltb-false (position_or_len (waits_at group) waiting) (length waiting) q in
+        list_any_none (waits_at group) waiting (λ k d lt. fails_before_first (waits_at group) waiting k d (omega (arith, all)))
 
 pub found_in : (p : Waiting → Bool) (waiting seen : List Waiting) (found : Option ℕ) (at : ℕ) → found ≡ Some at → found ≡ position p seen → seen ≡ waiting → position p waiting ≡ Some at
 found_in p waiting seen found at is f s = sym (ap (position p) s) ∙ sym f ∙ is
@@ -358,8 +383,8 @@ pub drain_committed : (before now : Rules) (flight new_flight : List (Flying Pac
 drain_committed before now flight new_flight contents new_contents list new_list order f m =
     let v = versions now before in
     told_weaker contents new_contents (λ x y p.
-      let mid : y ≡ drain v x (filter is_old flight) = p.1 ∙ ap (all_made x) p.0 in
-      ap₂ (drain (versions now now)) mid f
-      ∙ ap (all_made (drain v x (filter is_old flight))) (commit_drained v (stages_in now) (drain v x (filter is_old flight)) (filter is_present flight) (all_present flight))
-      ∙ sym (drain_append v x (filter is_old flight) (filter is_present flight))
-      ∙ ap (drain v x) (sym (old_split flight order))) m.told
+    let mid : y ≡ drain v x (filter is_old flight) = p.1 ∙ ap (all_made x) p.0 in
+    ap₂ (drain (versions now now)) mid f
+    ∙ ap (all_made (drain v x (filter is_old flight))) (commit_drained v (stages_in now) (drain v x (filter is_old flight)) (filter is_present flight) (all_present flight))
+    ∙ sym (drain_append v x (filter is_old flight) (filter is_present flight))
+    ∙ ap (drain v x) (sym (old_split flight order))) m.told

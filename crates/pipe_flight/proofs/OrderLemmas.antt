@@ -85,11 +85,12 @@ old_split {P} (one ∷ flight) h = by (old_split flight h.1) one.kept refl
     no_old : (fs : List (Flying P)) → All (λ x. x ≡ false) (map is_old fs) → filter is_old fs ≡ []
     no_old [] a = refl
     no_old (f ∷ fs) a = ap (λ b. cond b (f ∷ filter is_old fs) (filter is_old fs)) (All-head (λ x. x ≡ false) f.kept (map is_old fs) a) ∙ no_old fs (All-tail (λ x. x ≡ false) f.kept (map is_old fs) a)
+
     by : flight ≡ filter is_old flight ++ filter is_present flight → (b : Bool) → one.kept ≡ b → one ∷ flight ≡ cond b (one ∷ filter is_old flight) (filter is_old flight) ++ cond (not b) (one ∷ filter is_present flight) (filter is_present flight)
     by rest true e = ap (λ fs. one ∷ fs) rest
     by rest false e =
-      let none : filter is_old flight ≡ [] = no_old flight (h.0 e) in
-      ap (λ fs. one ∷ fs) (rest ∙ ap (λ fs. fs ++ filter is_present flight) none) ∙ ap (λ fs. fs ++ (one ∷ filter is_present flight)) (sym none)
+        let none : filter is_old flight ≡ [] = no_old flight (h.0 e) in
+        ap (λ fs. one ∷ fs) (rest ∙ ap (λ fs. fs ++ filter is_present flight) none) ∙ ap (λ fs. fs ++ (one ∷ filter is_present flight)) (sym none)
 
 pub all_old : {P : Type 0} (flight : List (Flying P)) → All (λ (f : Flying P). f.kept ≡ true) (map kept_now flight)
 all_old {P} [] = All-nil (λ (f : Flying P). f.kept ≡ true)
@@ -134,8 +135,8 @@ pub somebody : {P : Type 0} (group : ℕ) (flight : List (Flying P)) → (Nobody
 somebody {P} group [] some = absurd (some (All-nil (λ (one : Flying P). one.group ≢ group)))
 somebody {P} group (one ∷ flight) some =
     ⊎_elim
-      (λ (here : one.group ≡ group). record { front = []; one = one; back = flight; split = refl; here = here })
-      (λ (off : one.group ≢ group).
-        let rest = somebody group flight (λ none. some (All-cons (λ (one : Flying P). one.group ≢ group) one flight off none)) in
-        record { front = one ∷ rest.front; one = rest.one; back = rest.back; split = ap (λ fs. one ∷ fs) rest.split; here = rest.here })
-      (cases_eq one.group group)
+    (λ (here : one.group ≡ group). record { front = []; one = one; back = flight; split = refl; here = here })
+    (λ (off : one.group ≢ group).
+    let rest = somebody group flight (λ none. some (All-cons (λ (one : Flying P). one.group ≢ group) one flight off none)) in
+    record { front = one ∷ rest.front; one = rest.one; back = rest.back; split = ap (λ fs. one ∷ fs) rest.split; here = rest.here })
+    (cases_eq one.group group)

@@ -26,9 +26,9 @@ all_made_same (call ∷ calls) one two a i e =
 made_off : (contents : Contents) (call : Call) (a i : ℕ) → ((call.array ≡ a) × (call.addr ≡ i) → ⊥) → made contents call a i ≡ contents a i
 made_off contents call a i ne =
     ⊎_elim
-      (λ (same : call.array ≡ a). ⊎_elim (λ (here : call.addr ≡ i). absurd (ne (same, here))) (λ (other : call.addr ≢ i). grind (arith, nat_tests)) (cases_eq call.addr i))
-      (λ (other : call.array ≢ a). grind (arith, nat_tests))
-      (cases_eq call.array a)
+    (λ (same : call.array ≡ a). ⊎_elim (λ (here : call.addr ≡ i). absurd (ne (same, here))) (λ (other : call.addr ≢ i). grind (arith, nat_tests)) (cases_eq call.addr i))
+    (λ (other : call.array ≢ a). grind (arith, nat_tests))
+    (cases_eq call.array a)
 
 -- calls at some places leave every other place
 pub all_made_off : (Place : ℕ → ℕ → Type 0) (calls : List Call) (contents : Contents) (a i : ℕ) → AreAt Place calls → (Place a i → ⊥) → all_made contents calls a i ≡ contents a i
@@ -59,8 +59,8 @@ pub flow_at : {P : Type 0} (Place : ℕ → ℕ → Type 0) (stages : Stages P) 
 flow_at Place stages contents packet zero group outs at = All-nil (λ (c : Call). Place c.array c.addr)
 flow_at Place stages contents packet (suc n) group outs at =
     All-append (λ (c : Call). Place c.array c.addr) (stages group packet outs) (flow stages contents packet n (group + 1) (handed contents (stages group packet outs) outs))
-      (at group outs (omega arith))
-      (flow_at Place stages contents packet n (group + 1) (handed contents (stages group packet outs) outs) (λ g o le. at g o (omega arith)))
+    (at group outs (omega arith))
+    (flow_at Place stages contents packet n (group + 1) (handed contents (stages group packet outs) outs) (λ g o le. at g o (omega arith)))
 
 -- ---- by groups
 
@@ -79,13 +79,13 @@ pub groups_commute : (group_of : ℕ → ℕ) (group : ℕ) (here others : List 
     → all_made (all_made contents here) others ≡ all_made (all_made contents others) here
 groups_commute group_of group here others contents at off = fun_ext (λ a. fun_ext (λ i.
     ⊎_elim
-      (λ (same : group_of a ≡ group).
-        all_made_off (FromGroup group_of (group + 1)) others (all_made contents here) a i off (λ le. omega arith)
-        ∙ all_made_same here contents (all_made contents others) a i (sym (all_made_off (FromGroup group_of (group + 1)) others contents a i off (λ le. omega arith))))
-      (λ (other : group_of a ≢ group).
-        all_made_same others (all_made contents here) contents a i (all_made_off (InGroup group_of group) here contents a i at other)
-        ∙ sym (all_made_off (InGroup group_of group) here (all_made contents others) a i at other))
-      (cases_eq (group_of a) group)))
+    (λ (same : group_of a ≡ group).
+    all_made_off (FromGroup group_of (group + 1)) others (all_made contents here) a i off (λ le. omega arith)
+    ∙ all_made_same here contents (all_made contents others) a i (sym (all_made_off (FromGroup group_of (group + 1)) others contents a i off (λ le. omega arith))))
+    (λ (other : group_of a ≢ group).
+    all_made_same others (all_made contents here) contents a i (all_made_off (InGroup group_of group) here contents a i at other)
+    ∙ sym (all_made_off (InGroup group_of group) here (all_made contents others) a i at other))
+    (cases_eq (group_of a) group)))
 
 -- calls on one group leave the later ones, and those on later groups leave it
 pub same_after : (group_of : ℕ → ℕ) (group : ℕ) (here : List Call) (contents : Contents) → AreAt (InGroup group_of group) here → SameAt (FromGroup group_of (group + 1)) (all_made contents here) contents
@@ -102,18 +102,18 @@ pub order_by_array : (group_of : ℕ → ℕ) (group array : ℕ) (here others :
 order_by_array group_of group array here others at off =
     filter-append (is_on array) here others
     ∙ ⊎_elim
-        (λ (same : group_of array ≡ group).
-          let none : filter (is_on array) others ≡ [] = none_there (FromGroup group_of (group + 1)) array others off (λ i le. omega arith) in
-          ap (λ xs. filter (is_on array) here ++ xs) none ∙ append-nil (filter (is_on array) here) ∙ ap (λ xs. xs ++ filter (is_on array) here) (sym none))
-        (λ (other : group_of array ≢ group).
-          let none : filter (is_on array) here ≡ [] = none_there (InGroup group_of group) array here at (λ i. other) in
-          ap (λ xs. xs ++ filter (is_on array) others) none ∙ sym (append-nil (filter (is_on array) others)) ∙ ap (λ xs. filter (is_on array) others ++ xs) (sym none))
-        (cases_eq (group_of array) group)
+    (λ (same : group_of array ≡ group).
+    let none : filter (is_on array) others ≡ [] = none_there (FromGroup group_of (group + 1)) array others off (λ i le. omega arith) in
+    ap (λ xs. filter (is_on array) here ++ xs) none ∙ append-nil (filter (is_on array) here) ∙ ap (λ xs. xs ++ filter (is_on array) here) (sym none))
+    (λ (other : group_of array ≢ group).
+    let none : filter (is_on array) here ≡ [] = none_there (InGroup group_of group) array here at (λ i. other) in
+    ap (λ xs. xs ++ filter (is_on array) others) none ∙ sym (append-nil (filter (is_on array) others)) ∙ ap (λ xs. filter (is_on array) others ++ xs) (sym none))
+    (cases_eq (group_of array) group)
     ∙ sym (filter-append (is_on array) others here)
   where
     none_there : (Place : ℕ → ℕ → Type 0) (array : ℕ) (calls : List Call) → AreAt Place calls → ((i : ℕ) → Place array i → ⊥) → filter (is_on array) calls ≡ []
     none_there Place array [] at off = refl
     none_there Place array (call ∷ calls) at off =
-      let miss : is_on array call ≡ false = ⊎_elim (λ (e : call.array ≡ array). absurd (off call.addr (subst (λ x. Place x call.addr) e (All-head (λ (c : Call). Place c.array c.addr) call calls at)))) (λ (ne : call.array ≢ array). grind (arith, nat_tests)) (cases_eq call.array array) in
-      ap (λ b. cond b (call ∷ filter (is_on array) calls) (filter (is_on array) calls)) miss
-      ∙ none_there Place array calls (All-tail (λ (c : Call). Place c.array c.addr) call calls at) off
+        let miss : is_on array call ≡ false = ⊎_elim (λ (e : call.array ≡ array). absurd (off call.addr (subst (λ x. Place x call.addr) e (All-head (λ (c : Call). Place c.array c.addr) call calls at)))) (λ (ne : call.array ≢ array). grind (arith, nat_tests)) (cases_eq call.array array) in
+        ap (λ b. cond b (call ∷ filter (is_on array) calls) (filter (is_on array) calls)) miss
+        ∙ none_there Place array calls (All-tail (λ (c : Call). Place c.array c.addr) call calls at) off

@@ -47,11 +47,14 @@ front_follows {P} group_of rules contents here group (f ∷ fs) (Made calls ∷ 
     let reach = reaches_from group_of rules (group + 1) (f ∷ fs) both above in
     let before = rev fs in
     let reach_before = all_rev (Reaches Later rules) fs (All-tail (Reaches Later rules) f fs reach) in
-    let same : SameAt Later (drain rules (all_made contents here) before) (drain rules contents before) = record { same = λ a i p.
-      ap (λ cs. all_made (all_made contents here) cs a i) (drained_same Later rules (all_made contents here) contents before reach_before (same_after group_of group here contents at))
-      ∙ all_made_same (drained rules contents before) (all_made contents here) contents a i ((same_after group_of group here contents at).same a i p) } in
-    (record { done = h.0.done; whole = h.0.whole ∙ ap (λ cs. h.0.done ++ cs) (sym (rest_same Later rules (drain rules (all_made contents here) before) (drain rules contents before) f (All-head (Reaches Later rules) f fs reach) same)); behind = h.0.behind },
-     front_follows group_of rules contents here group fs items both at (All-tail Up f fs above) h.1)
+    let same : SameAt Later (drain rules (all_made contents here) before) (drain rules contents before) = record {
+      same = λ a i p.
+          ap (λ cs. all_made (all_made contents here) cs a i) (drained_same Later rules (all_made contents here) contents before reach_before (same_after group_of group here contents at))
+          ∙ all_made_same (drained rules contents before) (all_made contents here) contents a i ((same_after group_of group here contents at).same a i p);
+    } in (
+      record { done = h.0.done; whole = h.0.whole ∙ ap (λ cs. h.0.done ++ cs) (sym (rest_same Later rules (drain rules (all_made contents here) before) (drain rules contents before) f (All-head (Reaches Later rules) f fs reach) same)); behind = h.0.behind },
+      front_follows group_of rules contents here group fs items both at (All-tail Up f fs above) h.1,
+    )
 front_follows group_of rules contents here group (f ∷ fs) (Filled fill ∷ items) both at above h = (h.0, front_follows group_of rules contents here group (f ∷ fs) items both at above h.1)
 
 avoids_moved : {P : Type 0} (rules : Versions P) (fill : Fill) (contents : Contents) (bs : List (Flying P)) (one : Flying P) (fs : List (Flying P)) → AvoidsAll rules fill (bs ++ one ∷ fs) → AvoidsAll rules fill (bs ++ moved_on rules contents one ∷ fs)
@@ -75,22 +78,24 @@ follows_moved {P} group_of rules contents [] one fs (Made calls ∷ items) both 
     let at = (stages_staged group_of rules one both).there one.group one.packet one.outs in
     let a = advances group_of rules contents (rev fs) one both lt (all_rev Up fs above) in
     let next = moved_on rules contents one in
-    let rest = rest_of rules (drain rules (all_made contents here) (rev fs)) next in
-    (record {
-       done = h.0.done ++ here;
-       whole = h.0.whole ∙ ap (λ cs. h.0.done ++ cs) a.rest ∙ sym (append_assoc h.0.done here rest);
-       behind = All-append (λ (c : Call). group_of c.array < one.group + 1) h.0.done here
-         (All-weaker (λ (c : Call). group_of c.array < one.group) (λ (c : Call). group_of c.array < one.group + 1) (λ c l. omega arith) h.0.done h.0.behind)
-         (All-weaker (λ (c : Call). group_of c.array ≡ one.group) (λ (c : Call). group_of c.array < one.group + 1) (λ c e. omega arith) here at) },
-     front_follows group_of rules contents here one.group fs items both at above h.1)
+    let rest = rest_of rules (drain rules (all_made contents here) (rev fs)) next in (
+      record {
+        done = h.0.done ++ here;
+        whole = h.0.whole ∙ ap (λ cs. h.0.done ++ cs) a.rest ∙ sym (append_assoc h.0.done here rest);
+        behind = All-append (λ (c : Call). group_of c.array < one.group + 1) h.0.done here
+            (All-weaker (λ (c : Call). group_of c.array < one.group) (λ (c : Call). group_of c.array < one.group + 1) (λ c l. omega arith) h.0.done h.0.behind)
+            (All-weaker (λ (c : Call). group_of c.array ≡ one.group) (λ (c : Call). group_of c.array < one.group + 1) (λ c e. omega arith) here at);
+      },
+      front_follows group_of rules contents here one.group fs items both at above h.1,
+    )
 follows_moved {P} group_of rules contents (b ∷ bs) one fs (Made calls ∷ items) both lt above h =
     let Up : Flying P → Type 0 = λ x. one.group + 1 ≤ x.group in
     let here = calls_next rules one in
     let next = moved_on rules contents one in
     let same : drain rules (all_made contents here) (rev (bs ++ next ∷ fs)) ≡ drain rules contents (rev (bs ++ one ∷ fs)) =
-      ap (drain rules (all_made contents here)) (split_rev bs next fs)
-      ∙ advance_drain group_of rules contents (rev fs) one (rev bs) both lt (all_rev Up fs above)
-      ∙ ap (drain rules contents) (sym (split_rev bs one fs)) in
+    ap (drain rules (all_made contents here)) (split_rev bs next fs)
+    ∙ advance_drain group_of rules contents (rev fs) one (rev bs) both lt (all_rev Up fs above)
+    ∙ ap (drain rules contents) (sym (split_rev bs one fs)) in
     (subst (λ c. IsOf group_of rules c b calls) (sym same) h.0, follows_moved group_of rules contents bs one fs items both lt above h.1)
 follows_moved group_of rules contents [] one fs (Filled fill ∷ items) both lt above h = (avoids_moved rules fill contents [] one fs h.0, follows_moved group_of rules contents [] one fs items both lt above h.1)
 follows_moved group_of rules contents (b ∷ bs) one fs (Filled fill ∷ items) both lt above h = (avoids_moved rules fill contents (b ∷ bs) one fs h.0, follows_moved group_of rules contents (b ∷ bs) one fs items both lt above h.1)
@@ -133,7 +138,7 @@ one_more {P} group_of rules contents start (b ∷ bs) one fs (Filled fill ∷ it
     ∙ sym (ap (λ (c : Contents). c a i) (fill_past fill (play start (without_last (suc (suc (length bs))) items)) (calls_next rules one) (avoid_at bs h.0.avoid one.group one.outs (omega arith))))
   where
     avoid_at : (cs : List (Flying P)) → All (λ (x : Flying P). (g : ℕ) (o : List ℕ) → x.group ≤ g → AreAt (λ x y. fill.test x y ≡ false) (stages_of rules x g x.packet o)) (b ∷ (cs ++ one ∷ fs))
-      → (g : ℕ) (o : List ℕ) → one.group ≤ g → AreAt (λ x y. fill.test x y ≡ false) (stages_of rules one g one.packet o)
+        → (g : ℕ) (o : List ℕ) → one.group ≤ g → AreAt (λ x y. fill.test x y ≡ false) (stages_of rules one g one.packet o)
     avoid_at [] av = All-head (λ (x : Flying P). (g : ℕ) (o : List ℕ) → x.group ≤ g → AreAt (λ x y. fill.test x y ≡ false) (stages_of rules x g x.packet o)) one fs (All-tail (λ (x : Flying P). (g : ℕ) (o : List ℕ) → x.group ≤ g → AreAt (λ x y. fill.test x y ≡ false) (stages_of rules x g x.packet o)) b (one ∷ fs) av)
     avoid_at (c ∷ cs) av = avoid_at cs (All-cons (λ (x : Flying P). (g : ℕ) (o : List ℕ) → x.group ≤ g → AreAt (λ x y. fill.test x y ≡ false) (stages_of rules x g x.packet o)) b (cs ++ one ∷ fs) (All-head (λ (x : Flying P). (g : ℕ) (o : List ℕ) → x.group ≤ g → AreAt (λ x y. fill.test x y ≡ false) (stages_of rules x g x.packet o)) b (c ∷ (cs ++ one ∷ fs)) av)
-      (All-tail (λ (x : Flying P). (g : ℕ) (o : List ℕ) → x.group ≤ g → AreAt (λ x y. fill.test x y ≡ false) (stages_of rules x g x.packet o)) c (cs ++ one ∷ fs) (All-tail (λ (x : Flying P). (g : ℕ) (o : List ℕ) → x.group ≤ g → AreAt (λ x y. fill.test x y ≡ false) (stages_of rules x g x.packet o)) b (c ∷ (cs ++ one ∷ fs)) av)))
+        (All-tail (λ (x : Flying P). (g : ℕ) (o : List ℕ) → x.group ≤ g → AreAt (λ x y. fill.test x y ≡ false) (stages_of rules x g x.packet o)) c (cs ++ one ∷ fs) (All-tail (λ (x : Flying P). (g : ℕ) (o : List ℕ) → x.group ≤ g → AreAt (λ x y. fill.test x y ≡ false) (stages_of rules x g x.packet o)) b (c ∷ (cs ++ one ∷ fs)) av)))

@@ -11,7 +11,7 @@ use Rattle.pipe_flight.specs.Schedules.{Fill, filled, Avoids}
 abbrev pub DrainsEntered : Type 0 → Type 0
 DrainsEntered P = (rules : Versions P) (contents : Contents) (flight : List (Flying P)) (none : List ℕ) (packet : P)
     → drain rules contents (flight ++ entering none packet ∷ [])
-      ≡ all_made (drain rules contents flight) (flow rules.now (drain rules contents flight) packet rules.count 0 none)
+    ≡ all_made (drain rules contents flight) (flow rules.now (drain rules contents flight) packet rules.count 0 none)
 
 abbrev pub with_now : {P : Type 0} → Versions P → Stages P → Versions P
 with_now rules next = record { count = rules.count; now = next; old = rules.old }

@@ -33,7 +33,11 @@ calls_next rules one = stages_of rules one one.group one.packet one.outs
 -- the packet before the next group, with what these calls handed on
 abbrev pub moved_on : {P : Type 0} → Versions P → Contents → Flying P → Flying P
 moved_on rules contents one = record {
-  packet = one.packet; group = one.group + 1; kept = one.kept; outs = handed contents (calls_next rules one) one.outs }
+  packet = one.packet;
+  group = one.group + 1;
+  kept = one.kept;
+  outs = handed contents (calls_next rules one) one.outs;
+}
 
 -- the calls that a packet has still to make, over these registers
 abbrev pub rest_of : {P : Type 0} → Versions P → Contents → Flying P → List Call

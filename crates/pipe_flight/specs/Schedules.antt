@@ -47,23 +47,43 @@ passed_group rules contents group (one ∷ others) =
 -- the old packets pass to the end
 abbrev pub olds_passed : {P : Type 0} → Moment P → Moment P
 olds_passed m = record {
-  flight = filter is_present m.flight; rules = m.rules;
+  flight = filter is_present m.flight;
+  rules = m.rules;
   contents = drain m.rules m.contents (filter is_old m.flight);
-  calls = m.calls ++ drained m.rules m.contents (filter is_old m.flight) }
+  calls = m.calls ++ drained m.rules m.contents (filter is_old m.flight);
+}
 
 abbrev pub moment_after : {P : Type 0} → List ℕ → Moment P → Step P → Moment P
 moment_after none m (Enter packet) = record {
-  flight = m.flight ++ entering none packet ∷ []; rules = m.rules; contents = m.contents; calls = m.calls }
+  flight = m.flight ++ entering none packet ∷ [];
+  rules = m.rules;
+  contents = m.contents;
+  calls = m.calls;
+}
 moment_after none m (Advance group) = record {
-  flight = passed_group m.rules m.contents group m.flight; rules = m.rules;
-  contents = all_made m.contents (calls_of_group m.rules group m.flight); calls = m.calls ++ calls_of_group m.rules group m.flight }
+  flight = passed_group m.rules m.contents group m.flight;
+  rules = m.rules;
+  contents = all_made m.contents (calls_of_group m.rules group m.flight);
+  calls = m.calls ++ calls_of_group m.rules group m.flight;
+}
 moment_after none m (Change next fill) = record {
-  flight = map kept_now (olds_passed m).flight; rules = committed m.rules next;
-  contents = filled fill (olds_passed m).contents; calls = (olds_passed m).calls }
+  flight = map kept_now (olds_passed m).flight;
+  rules = committed m.rules next;
+  contents = filled fill (olds_passed m).contents;
+  calls = (olds_passed m).calls;
+}
 moment_after none m Show = record {
-  flight = []; rules = m.rules; contents = drain m.rules m.contents m.flight; calls = m.calls ++ drained m.rules m.contents m.flight }
+  flight = [];
+  rules = m.rules;
+  contents = drain m.rules m.contents m.flight;
+  calls = m.calls ++ drained m.rules m.contents m.flight;
+}
 moment_after none m (Rearrange next effect) = record {
-  flight = m.flight; rules = committed m.rules next; contents = effect m.contents; calls = m.calls }
+  flight = m.flight;
+  rules = committed m.rules next;
+  contents = effect m.contents;
+  calls = m.calls;
+}
 
 -- the serial run so far: the rules, the registers and the calls made
 pub record Serial (P : Type 0) : Type 0 where
@@ -73,8 +93,10 @@ pub record Serial (P : Type 0) : Type 0 where
 
 abbrev pub serial_after : {P : Type 0} → ℕ → List ℕ → Serial P → Step P → Serial P
 serial_after count none s (Enter packet) = record {
-  now = s.now; contents = all_made s.contents (flow s.now s.contents packet count 0 none);
-  calls = s.calls ++ flow s.now s.contents packet count 0 none }
+  now = s.now;
+  contents = all_made s.contents (flow s.now s.contents packet count 0 none);
+  calls = s.calls ++ flow s.now s.contents packet count 0 none;
+}
 serial_after count none s (Advance group) = s
 serial_after count none s (Change next fill) = record { now = next; contents = filled fill s.contents; calls = s.calls }
 serial_after count none s Show = s
@@ -110,7 +132,11 @@ MeetAll group_of none m (step ∷ steps) = Meets group_of m step × MeetAll grou
 
 abbrev pub first_moment : {P : Type 0} → ℕ → Stages P → Contents → Moment P
 first_moment count now contents = record {
-  flight = []; rules = record { count = count; now = now; old = now }; contents = contents; calls = [] }
+  flight = [];
+  rules = record { count = count; now = now; old = now };
+  contents = contents;
+  calls = [];
+}
 
 abbrev pub first_serial : {P : Type 0} → Stages P → Contents → Serial P
 first_serial now contents = record { now = now; contents = contents; calls = [] }

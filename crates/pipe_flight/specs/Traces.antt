@@ -68,4 +68,4 @@ KeepsGroupOrder P = (group_of : ℕ → ℕ) (none : List ℕ) (count : ℕ) (no
     → 0 < count → AreStaged group_of now → MeetAll group_of none (first_moment count now contents) schedule
     → AreFine none (first_moment count now contents) schedule
     → GroupsAgree group_of count contents (traced count none (first_serial now contents) [] schedule)
-        (ran none (first_moment count now contents) schedule).contents (ran none (first_moment count now contents) schedule).flight
+    (ran none (first_moment count now contents) schedule).contents (ran none (first_moment count now contents) schedule).flight

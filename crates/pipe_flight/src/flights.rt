@@ -80,7 +80,7 @@ impl Flight {
         requires same { SameShape self.old.before now.now }
         requires shaped { IsShaped now.now.geometry (R.dims regs.old) }
         requires there { NobodyAt group self.old.flight → ⊥ }
-        requires vacant { NobodyAt (group + 1) self.old.flight }
+        requires vacant { group + 1 < group_count now.now → NobodyAt (group + 1) self.old.flight }
         ensures faults { R.faults regs.new ≡ R.faults regs.old }
         ensures dims { R.dims regs.new ≡ R.dims regs.old }
         ensures before { self.new.before ≡ self.old.before }
@@ -134,6 +134,8 @@ impl Flight {
         ensures dims { R.dims regs.new ≡ R.dims regs.old }
         ensures before { self.new.before ≡ self.old.before }
         ensures flight { self.new.flight ≡ [] }
+        ensures drain { Told (λ contents now_contents.
+            now_contents ≡ drain (versions now.now self.old.before) contents self.old.flight) (R.contents regs.old) (R.contents regs.new) }
         ensures makes { MakesOver (λ contents. drained (versions now.now self.old.before) contents self.old.flight)
             (R.contents regs.old) (R.contents regs.new) (R.calls regs.old) (R.calls regs.new) }
     {

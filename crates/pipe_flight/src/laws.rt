@@ -9,27 +9,23 @@ ghost use Rattle.pipe_flight.specs.Drains.{DrainsEntered, DrainsFilled};
 #[tactic(auto, using(crate::proofs::LawLemmas::serial_order))]
 pub fn serial_order()
     ensures { KeepsSerialOrder Packet }
-{
-}
+{}
 
 /// The registers of a group are those of the serial run without the packets that have not passed
 /// it.
 #[tactic(auto, using(crate::proofs::LawLemmas::group_order))]
 pub fn group_order()
     ensures { KeepsGroupOrder Packet }
-{
-}
+{}
 
 /// A packet that enters comes after all others.
 #[tactic(auto, using(crate::proofs::LawLemmas::enter_drain))]
 pub fn enter_drain()
     ensures { DrainsEntered Packet }
-{
-}
+{}
 
 /// A fill beside what the old rules use comes before or after the old packets alike.
 #[tactic(auto, using(crate::proofs::LawLemmas::fill_drain))]
 pub fn fill_drain()
     ensures { DrainsFilled Packet }
-{
-}
+{}

@@ -4,6 +4,8 @@
 mod flights;
 mod laws;
 mod passing;
+#[cfg(test)]
+mod tests;
 mod waiting;
 
 pub use flights::Flight;

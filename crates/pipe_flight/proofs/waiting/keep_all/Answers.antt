@@ -7,4 +7,5 @@ all-preserved c =
     let lt : c.all.one-index < length c.all.waiting = omega arith in
     record {
       front = front_more c.args.waiting.now c.all.waiting c.all.one-index _ lt c.all-test.true c.all.invariant.front c.all.invariant.back;
-      back = back_more c.args.waiting.now c.all.waiting c.all.one-index _ c.all.invariant.back }
+      back = back_more c.args.waiting.now c.all.waiting c.all.one-index _ c.all.invariant.back;
+    }

@@ -32,7 +32,8 @@ invariant_of-self g c =
     record {
       in_order = seen_removed p.waiting.items c.remove.new.self.items p.before c.args.self.now now c.args.group at c.group_count-groups.result one c.group_step.new.outs s c.remove.ensures.items (c.group_count-groups.ensures.value ∙ ap (λ (s : Geometry). length s.groups) c.shape.ensures.value) c.if-one-groups.true;
       some = c.self.invariant.some;
-      has_room = omega (arith, c.self.invariant.has_room, c.remove.ensures.capacity) }
+      has_room = omega (arith, c.self.invariant.has_room, c.remove.ensures.capacity);
+    }
 
 pub invariant_of-self-else-one-groups : goal.invariant_of-self-else-one-groups
 invariant_of-self-else-one-groups g c =
@@ -42,7 +43,8 @@ invariant_of-self-else-one-groups g c =
     record {
       in_order = seen_set p.waiting.items p.before c.args.self.now now c.args.group at c.group_count-groups.result one c.group_step.new.outs s (c.group_count-groups.ensures.value ∙ ap (λ (s : Geometry). length s.groups) c.shape.ensures.value) c.if-one-groups.false;
       some = c.self.invariant.some;
-      has_room = c.self.invariant.has_room }
+      has_room = c.self.invariant.has_room;
+    }
 
 pub returns-then-one-groups-clause-moves : goal.returns-then-one-groups-clause-moves
 returns-then-one-groups-clause-moves g c =
@@ -51,9 +53,9 @@ returns-then-one-groups-clause-moves g c =
     let found = found_in _ p.waiting.items c.deref.result.now c.place_of.result at c.in-Some.is c.place_of.ensures c.deref.ensures.value in
     let s = sees p.waiting.items p.before c.args.self.now now c.args.group at one c.self.view_is c.self.invariant.in_order found c.index.ensures c.requires.same c.requires.vacant in
     seen_moves p.waiting.items p.before c.args.self.now now c.rules_of-rules.result.now c.args.group at one c.group_step.new.outs (map _ c.remove.new.self.items)
-      (r.contents c.args.regs.now) (r.contents c.group_step.new.regs) (r.calls c.args.regs.now) (r.calls c.group_step.new.regs) s c.rules_of-rules.ensures
-      (after_removed (group_count now) p.waiting.items c.remove.new.self.items at one c.group_step.new.outs c.remove.ensures.items (c.if-one-groups.true ∙ (c.group_count-groups.ensures.value ∙ ap (λ (s : Geometry). length s.groups) c.shape.ensures.value)))
-      c.group_step.ensures.makes
+    (r.contents c.args.regs.now) (r.contents c.group_step.new.regs) (r.calls c.args.regs.now) (r.calls c.group_step.new.regs) s c.rules_of-rules.ensures
+    (after_removed (group_count now) p.waiting.items c.remove.new.self.items at one c.group_step.new.outs c.remove.ensures.items (c.if-one-groups.true ∙ (c.group_count-groups.ensures.value ∙ ap (λ (s : Geometry). length s.groups) c.shape.ensures.value)))
+    c.group_step.ensures.makes
 
 pub returns-else-one-groups-clause-moves : goal.returns-else-one-groups-clause-moves
 returns-else-one-groups-clause-moves g c =
@@ -62,9 +64,9 @@ returns-else-one-groups-clause-moves g c =
     let found = found_in _ p.waiting.items c.deref.result.now c.place_of.result at c.in-Some.is c.place_of.ensures c.deref.ensures.value in
     let s = sees p.waiting.items p.before c.args.self.now now c.args.group at one c.self.view_is c.self.invariant.in_order found c.index.ensures c.requires.same c.requires.vacant in
     seen_moves p.waiting.items p.before c.args.self.now now c.rules_of-rules.result.now c.args.group at one c.group_step.new.outs _
-      (r.contents c.args.regs.now) (r.contents c.group_step.new.regs) (r.calls c.args.regs.now) (r.calls c.group_step.new.regs) s c.rules_of-rules.ensures
-      (after_set (group_count now) p.waiting.items at one c.group_step.new.outs s.there (λ e. c.if-one-groups.false (e ∙ sym (c.group_count-groups.ensures.value ∙ ap (λ (s : Geometry). length s.groups) c.shape.ensures.value))))
-      c.group_step.ensures.makes
+    (r.contents c.args.regs.now) (r.contents c.group_step.new.regs) (r.calls c.args.regs.now) (r.calls c.group_step.new.regs) s c.rules_of-rules.ensures
+    (after_set (group_count now) p.waiting.items at one c.group_step.new.outs s.there (λ e. c.if-one-groups.false (e ∙ sym (c.group_count-groups.ensures.value ∙ ap (λ (s : Geometry). length s.groups) c.shape.ensures.value))))
+    c.group_step.ensures.makes
 
 pub returns-then-one-groups-clause-drain : goal.returns-then-one-groups-clause-drain
 returns-then-one-groups-clause-drain g c =
@@ -73,11 +75,11 @@ returns-then-one-groups-clause-drain g c =
     let found = found_in _ p.waiting.items c.deref.result.now c.place_of.result at c.in-Some.is c.place_of.ensures c.deref.ensures.value in
     let s = sees p.waiting.items p.before c.args.self.now now c.args.group at one c.self.view_is c.self.invariant.in_order found c.index.ensures c.requires.same c.requires.vacant in
     drain_kept c.args.self.now.before now c.args.group c.args.self.now.flight _ (r.contents c.args.regs.now) (r.contents c.group_step.new.regs) (r.calls c.args.regs.now) (r.calls c.group_step.new.regs) c.requires.same
-      (subst IsInOrder c.self.view_is c.self.invariant.in_order)
-      (seen_moves p.waiting.items p.before c.args.self.now now c.rules_of-rules.result.now c.args.group at one c.group_step.new.outs (map _ c.remove.new.self.items)
-      (r.contents c.args.regs.now) (r.contents c.group_step.new.regs) (r.calls c.args.regs.now) (r.calls c.group_step.new.regs) s c.rules_of-rules.ensures
-      (after_removed (group_count now) p.waiting.items c.remove.new.self.items at one c.group_step.new.outs c.remove.ensures.items (c.if-one-groups.true ∙ (c.group_count-groups.ensures.value ∙ ap (λ (s : Geometry). length s.groups) c.shape.ensures.value)))
-      c.group_step.ensures.makes)
+    (subst IsInOrder c.self.view_is c.self.invariant.in_order)
+    (seen_moves p.waiting.items p.before c.args.self.now now c.rules_of-rules.result.now c.args.group at one c.group_step.new.outs (map _ c.remove.new.self.items)
+    (r.contents c.args.regs.now) (r.contents c.group_step.new.regs) (r.calls c.args.regs.now) (r.calls c.group_step.new.regs) s c.rules_of-rules.ensures
+    (after_removed (group_count now) p.waiting.items c.remove.new.self.items at one c.group_step.new.outs c.remove.ensures.items (c.if-one-groups.true ∙ (c.group_count-groups.ensures.value ∙ ap (λ (s : Geometry). length s.groups) c.shape.ensures.value)))
+    c.group_step.ensures.makes)
 
 pub returns-else-one-groups-clause-drain : goal.returns-else-one-groups-clause-drain
 returns-else-one-groups-clause-drain g c =
@@ -86,8 +88,8 @@ returns-else-one-groups-clause-drain g c =
     let found = found_in _ p.waiting.items c.deref.result.now c.place_of.result at c.in-Some.is c.place_of.ensures c.deref.ensures.value in
     let s = sees p.waiting.items p.before c.args.self.now now c.args.group at one c.self.view_is c.self.invariant.in_order found c.index.ensures c.requires.same c.requires.vacant in
     drain_kept c.args.self.now.before now c.args.group c.args.self.now.flight _ (r.contents c.args.regs.now) (r.contents c.group_step.new.regs) (r.calls c.args.regs.now) (r.calls c.group_step.new.regs) c.requires.same
-      (subst IsInOrder c.self.view_is c.self.invariant.in_order)
-      (seen_moves p.waiting.items p.before c.args.self.now now c.rules_of-rules.result.now c.args.group at one c.group_step.new.outs _
-      (r.contents c.args.regs.now) (r.contents c.group_step.new.regs) (r.calls c.args.regs.now) (r.calls c.group_step.new.regs) s c.rules_of-rules.ensures
-      (after_set (group_count now) p.waiting.items at one c.group_step.new.outs s.there (λ e. c.if-one-groups.false (e ∙ sym (c.group_count-groups.ensures.value ∙ ap (λ (s : Geometry). length s.groups) c.shape.ensures.value))))
-      c.group_step.ensures.makes)
+    (subst IsInOrder c.self.view_is c.self.invariant.in_order)
+    (seen_moves p.waiting.items p.before c.args.self.now now c.rules_of-rules.result.now c.args.group at one c.group_step.new.outs _
+    (r.contents c.args.regs.now) (r.contents c.group_step.new.regs) (r.calls c.args.regs.now) (r.calls c.group_step.new.regs) s c.rules_of-rules.ensures
+    (after_set (group_count now) p.waiting.items at one c.group_step.new.outs s.there (λ e. c.if-one-groups.false (e ∙ sym (c.group_count-groups.ensures.value ∙ ap (λ (s : Geometry). length s.groups) c.shape.ensures.value))))
+    c.group_step.ensures.makes)

@@ -18,4 +18,5 @@ invariant_of-self c =
     record {
       in_order = subst (IsFlight (group_count p.before)) (sym (pushed_is p.waiting.items c.push.new.self.items _ _ ok c.push.ensures.items)) e.kept;
       some = c.self.invariant.some;
-      has_room = omega (arith, c.self.invariant.has_room, c.push.ensures.capacity) }
+      has_room = omega (arith, c.self.invariant.has_room, c.push.ensures.capacity);
+    }

@@ -10,5 +10,5 @@ pub returns-clause-none : goal.returns-clause-none
 returns-clause-none c = λ is.
     let p = c.self.inside in
     old_none p.waiting.items p.before c.args.self.now c.first_old.result c.self.view_is c.self.invariant.in_order
-      (c.first_old.ensures ∙ ap (λ (ws : List Waiting). list_any is_old (take 1 (map flying ws))) c.deref.ensures.value ∙ ap (λ (a : FlightState). list_any is_old (take 1 a.flight)) c.self.view_is)
-      is
+    (c.first_old.ensures ∙ ap (λ (ws : List Waiting). list_any is_old (take 1 (map flying ws))) c.deref.ensures.value ∙ ap (λ (a : FlightState). list_any is_old (take 1 a.flight)) c.self.view_is)
+    is

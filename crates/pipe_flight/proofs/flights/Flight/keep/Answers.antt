@@ -12,11 +12,12 @@ invariant_of-self c =
     let p = c.self.inside in
     record {
       in_order = kept_under (ap (λ (a : FlightState). (group_count a.before)) c.self.view_is ∙ (count_same c.requires) ∙ ap (λ (r : Rules). (group_count r)) (sym c.copy_from.ensures))
-      (subst (IsFlight (group_count p.before))
-        (sym (ap (map flying) (whole_again p.waiting.items c.keep_all.new.waiting p.waiting.len p.waiting.ok.0 (c.keep_all.ensures ∙ ap (map kept_waiting) c.deref_mut.ensures.value)) ∙ kept_is p.waiting.items))
-        (flight_kept (group_count p.before) (map flying p.waiting.items) c.self.invariant.in_order));
+          (subst (IsFlight (group_count p.before))
+          (sym (ap (map flying) (whole_again p.waiting.items c.keep_all.new.waiting p.waiting.len p.waiting.ok.0 (c.keep_all.ensures ∙ ap (map kept_waiting) c.deref_mut.ensures.value)) ∙ kept_is p.waiting.items))
+          (flight_kept (group_count p.before) (map flying p.waiting.items) c.self.invariant.in_order));
       some = (let same = ap (λ (a : FlightState). (group_count a.before)) c.self.view_is ∙ (count_same c.requires) ∙ ap (λ (r : Rules). (group_count r)) (sym c.copy_from.ensures) in omega (arith, same, c.self.invariant.some));
-      has_room = (let same = ap (λ (a : FlightState). (group_count a.before)) c.self.view_is ∙ (count_same c.requires) ∙ ap (λ (r : Rules). (group_count r)) (sym c.copy_from.ensures) in omega (arith, same, c.self.invariant.has_room)) }
+      has_room = (let same = ap (λ (a : FlightState). (group_count a.before)) c.self.view_is ∙ (count_same c.requires) ∙ ap (λ (r : Rules). (group_count r)) (sym c.copy_from.ensures) in omega (arith, same, c.self.invariant.has_room));
+    }
 
 pub returns-clause-flight : goal.returns-clause-flight
 returns-clause-flight c =

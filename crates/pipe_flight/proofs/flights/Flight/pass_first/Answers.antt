@@ -12,4 +12,5 @@ invariant_of-self g c =
     record {
       in_order = first_gone (group_count p.before) p.waiting.items c.remove-one.new.self.items c.remove-one.result c.self.invariant.in_order lt c.remove-one.ensures.value c.remove-one.ensures.items;
       some = c.self.invariant.some;
-      has_room = omega (arith, c.self.invariant.has_room, c.remove-one.ensures.capacity) }
+      has_room = omega (arith, c.self.invariant.has_room, c.remove-one.ensures.capacity);
+    }

@@ -17,18 +17,19 @@ olds-preserved g c =
     let rules_now = versions now before in
     let head = old_head flight (sym c.has_old.ensures.first ∙ c.olds-test.true) in
     let makes : MakesOver (λ contents. drained rules_now contents (take 1 flight)) (r.contents c.olds.regs) (r.contents c.pass_first.new.regs) (r.calls c.olds.regs) (r.calls c.pass_first.new.regs) =
-      subst (λ (b : Rules). MakesOver (λ contents. drained (versions now b) contents (take 1 flight)) (r.contents c.olds.regs) (r.contents c.pass_first.new.regs) (r.calls c.olds.regs) (r.calls c.pass_first.new.regs)) c.olds.invariant.before c.pass_first.ensures.makes in
+    subst (λ (b : Rules). MakesOver (λ contents. drained (versions now b) contents (take 1 flight)) (r.contents c.olds.regs) (r.contents c.pass_first.new.regs) (r.calls c.olds.regs) (r.calls c.pass_first.new.regs)) c.olds.invariant.before c.pass_first.ensures.makes in
     record {
       faults = search rules;
       dims = search rules;
       before = c.pass_first.ensures.before ∙ c.olds.invariant.before;
       presents = ap (filter is_present) c.pass_first.ensures.flight ∙ head.presents ∙ c.olds.invariant.presents;
       to_do = subst (λ (fs : List (Flying Packet)). StillTo (λ contents. drained rules_now contents (filter is_old c.args.self.now.flight)) (λ contents. drained rules_now contents (filter is_old fs)) (r.contents c.args.regs.now) (r.contents c.pass_first.new.regs) (r.calls c.args.regs.now) (r.calls c.pass_first.new.regs))
-        (sym c.pass_first.ensures.flight)
-        (still_then (λ contents. drained rules_now contents (filter is_old c.args.self.now.flight)) (λ contents. drained rules_now contents (filter is_old flight)) (λ contents. drained rules_now contents (take 1 flight)) (λ contents. drained rules_now contents (filter is_old (drop 1 flight)))
+          (sym c.pass_first.ensures.flight)
+          (still_then (λ contents. drained rules_now contents (filter is_old c.args.self.now.flight)) (λ contents. drained rules_now contents (filter is_old flight)) (λ contents. drained rules_now contents (take 1 flight)) (λ contents. drained rules_now contents (filter is_old (drop 1 flight)))
           (r.contents c.args.regs.now) (r.contents c.olds.regs) (r.contents c.pass_first.new.regs) (r.calls c.args.regs.now) (r.calls c.olds.regs) (r.calls c.pass_first.new.regs)
           (λ contents. ap (drained rules_now contents) head.olds ∙ drained_append rules_now contents (take 1 flight) (filter is_old (drop 1 flight)))
-          c.olds.invariant.to_do makes) }
+          c.olds.invariant.to_do makes);
+    }
 
 pub returns-clause-flight : goal.returns-clause-flight
 returns-clause-flight g c = sym (c.has_old.ensures.none c.olds-test.false).presents ∙ c.olds.invariant.presents
@@ -37,6 +38,6 @@ pub returns-clause-makes : goal.returns-clause-makes
 returns-clause-makes g c =
     let r = g.R.RegFile in let rules_now = versions c.args.now.now c.args.self.now.before in
     still_last (λ contents. drained rules_now contents (filter is_old c.args.self.now.flight)) (λ contents. drained rules_now contents (filter is_old c.olds.self.flight))
-      (r.contents c.args.regs.now) (r.contents c.olds.regs) (r.calls c.args.regs.now) (r.calls c.olds.regs)
-      (λ contents. ap (drained rules_now contents) (c.has_old.ensures.none c.olds-test.false).olds)
-      c.olds.invariant.to_do
+    (r.contents c.args.regs.now) (r.contents c.olds.regs) (r.calls c.args.regs.now) (r.calls c.olds.regs)
+    (λ contents. ap (drained rules_now contents) (c.has_old.ensures.none c.olds-test.false).olds)
+    c.olds.invariant.to_do

@@ -14,13 +14,14 @@ all-preserved g c =
     let flight = c.all.self.flight in
     let rules_now = versions now before in
     let makes : MakesOver (λ contents. drained rules_now contents (take 1 flight)) (r.contents c.all.regs) (r.contents c.pass_first.new.regs) (r.calls c.all.regs) (r.calls c.pass_first.new.regs) =
-      subst (λ (b : Rules). MakesOver (λ contents. drained (versions now b) contents (take 1 flight)) (r.contents c.all.regs) (r.contents c.pass_first.new.regs) (r.calls c.all.regs) (r.calls c.pass_first.new.regs)) c.all.invariant.before c.pass_first.ensures.makes in
+    subst (λ (b : Rules). MakesOver (λ contents. drained (versions now b) contents (take 1 flight)) (r.contents c.all.regs) (r.contents c.pass_first.new.regs) (r.calls c.all.regs) (r.calls c.pass_first.new.regs)) c.all.invariant.before c.pass_first.ensures.makes in
     record {
       faults = search rules;
       dims = search rules;
       before = c.pass_first.ensures.before ∙ c.all.invariant.before;
       to_do = subst (λ (fs : List (Flying Packet)). StillTo (λ contents. drained rules_now contents c.args.self.now.flight) (λ contents. drained rules_now contents fs) (r.contents c.args.regs.now) (r.contents c.pass_first.new.regs) (r.calls c.args.regs.now) (r.calls c.pass_first.new.regs))
-        (sym c.pass_first.ensures.flight)
-        (still_then (λ contents. drained rules_now contents c.args.self.now.flight) (λ contents. drained rules_now contents flight) (λ contents. drained rules_now contents (take 1 flight)) (λ contents. drained rules_now contents (drop 1 flight))
+          (sym c.pass_first.ensures.flight)
+          (still_then (λ contents. drained rules_now contents c.args.self.now.flight) (λ contents. drained rules_now contents flight) (λ contents. drained rules_now contents (take 1 flight)) (λ contents. drained rules_now contents (drop 1 flight))
           (r.contents c.args.regs.now) (r.contents c.all.regs) (r.contents c.pass_first.new.regs) (r.calls c.args.regs.now) (r.calls c.all.regs) (r.calls c.pass_first.new.regs)
-          (first_apart rules_now flight) c.all.invariant.to_do makes) }
+          (first_apart rules_now flight) c.all.invariant.to_do makes);
+    }

@@ -9,4 +9,4 @@ pub returns : goal.returns
 returns c =
     let p = c.self.inside in
     vacant_is c.args.group p.waiting.items p.before c.args.self.now _ c.self.view_is
-      (ap not (c.any_at.ensures ∙ ap (λ (ws : List Waiting). list_any (λ (w : Waiting). w.group == c.args.group) ws) c.deref.ensures.value))
+    (ap not (c.any_at.ensures ∙ ap (λ (ws : List Waiting). list_any (λ (w : Waiting). w.group == c.args.group) ws) c.deref.ensures.value))
