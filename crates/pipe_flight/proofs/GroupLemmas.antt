@@ -283,7 +283,7 @@ play_filled : (start : Contents) (n : ℕ) (fill : Fill) (trace : List Item) →
 play_filled start zero fill trace = refl
 play_filled start (suc n) fill trace = refl
 
-presents_only : {P : Type 0} (flight : List (Flying P)) → All (λ (f : Flying P). f.kept ≡ false) flight → (filter is_old flight ≡ []) × (filter is_present flight ≡ flight)
+pub presents_only : {P : Type 0} (flight : List (Flying P)) → All (λ (f : Flying P). f.kept ≡ false) flight → (filter is_old flight ≡ []) × (filter is_present flight ≡ flight)
 presents_only [] h = (refl, refl)
 presents_only {P} (one ∷ flight) h =
     let Present : Flying P → Type 0 = λ x. x.kept ≡ false in

@@ -12,7 +12,7 @@ use Rattle.reg_file.specs.Calls.{is_on, handed, all_made}
 use Rattle.pipe_core.specs.Flow.{Stages, flow}
 use Rattle.pipe_flight.specs.Flights.{Flying, Versions, stages_of, calls_next, drained}
 use Rattle.pipe_flight.specs.Schedules.{Fill, filled, Step, Moment, moment_after, Serial, serial_after, AreAt, AreStaged, Avoids, Meets, MeetAll, first_moment, first_serial, ran, ran_serial, KeepsSerialOrder}
-use Rattle.pipe_flight.specs.Traces.{Item, trace_after, traced, IsFine, AreFine, KeepsGroupOrder}
+use Rattle.pipe_flight.specs.Traces.{Item, trace_after, traced, IsFlightStep, KeepsGroupOrder}
 use Rattle.pipe_flight.proofs.Agreements.{Agrees, IsOf, Traced}
 use Rattle.pipe_flight.specs.Schedules.Step.{Enter, Advance, Change, Show, Rearrange}
 use Rattle.pipe_flight.proofs.PlaceLemmas.{flow_at, FromGroup, staged_from}
@@ -22,7 +22,8 @@ use Rattle.pipe_flight.proofs.DrainLemmas.{enter_drain as entered_drain}
 use Rattle.pipe_flight.proofs.CommitLemmas.{kept_drained}
 use Rattle.pipe_flight.proofs.OrderLemmas.{somebody}
 use Rattle.pipe_flight.proofs.SerialLemmas.{fill_past, agree_all, agree_step, calls_in_front, equal_at_end, count_stays}
-use Rattle.pipe_flight.proofs.GroupLemmas.{trace_enter, trace_advance, trace_change}
+use Rattle.pipe_flight.proofs.GroupLemmas.{trace_enter, trace_advance}
+use Rattle.pipe_flight.proofs.EndLemmas.{trace_changed, trace_show}
 
 agree_first : {P : Type 0} (group_of : ℕ → ℕ) (count : ℕ) (now : Stages P) (contents : Contents) → 0 < count → AreStaged group_of now → Agrees group_of (first_moment count now contents) (first_serial now contents)
 agree_first group_of count now contents some staged = record {
@@ -47,21 +48,21 @@ serial_order group_of none count now contents schedule some staged meet =
       contents_at_end = λ e. (equal_at_end group_of m s a e).0;
     }
 
-trace_step : {P : Type 0} (group_of : ℕ → ℕ) (start : Contents) (none : List ℕ) (m : Moment P) (s : Serial P) (trace : List Item) (step : Step P) → Agrees group_of m s → Meets group_of m step → IsFine m step → Traced group_of start m trace → Traced group_of start (moment_after none m step) (trace_after m.rules.count none s trace step)
+trace_step : {P : Type 0} (group_of : ℕ → ℕ) (start : Contents) (none : List ℕ) (m : Moment P) (s : Serial P) (trace : List Item) (step : Step P) → Agrees group_of m s → Meets group_of m step → IsFlightStep step → Traced group_of start m trace → Traced group_of start (moment_after none m step) (trace_after m.rules.count none s trace step)
 trace_step group_of start none m s trace (Enter packet) a meets fine t = trace_enter group_of start none m s trace packet a t
 trace_step group_of start none m s trace (Advance group) a meets fine t = trace_advance group_of start none m s trace group a (somebody group m.flight meets.0) t
-trace_step group_of start none m s trace (Change next fill) a meets fine t = trace_change group_of start none m s trace next fill fine meets.1 t
-trace_step group_of start none m s trace Show a meets fine t = absurd fine
+trace_step group_of start none m s trace (Change next fill) a meets fine t = trace_changed group_of start none m s trace next fill a meets.1 t
+trace_step group_of start none m s trace Show a meets fine t = trace_show group_of start none m s trace a t
 trace_step group_of start none m s trace (Rearrange next effect) a meets fine t = absurd fine
 
-trace_all : {P : Type 0} (group_of : ℕ → ℕ) (start : Contents) (none : List ℕ) (count : ℕ) (schedule : List (Step P)) (m : Moment P) (s : Serial P) (trace : List Item) → m.rules.count ≡ count → Agrees group_of m s → Traced group_of start m trace → MeetAll group_of none m schedule → AreFine none m schedule
+trace_all : {P : Type 0} (group_of : ℕ → ℕ) (start : Contents) (none : List ℕ) (count : ℕ) (schedule : List (Step P)) (m : Moment P) (s : Serial P) (trace : List Item) → m.rules.count ≡ count → Agrees group_of m s → Traced group_of start m trace → MeetAll group_of none m schedule → All IsFlightStep schedule
     → Traced group_of start (ran none m schedule) (traced count none s trace schedule)
 trace_all group_of start none count [] m s trace c a t meet fine = t
 trace_all group_of start none count (step ∷ steps) m s trace c a t meet fine =
     trace_all group_of start none count steps (moment_after none m step) (serial_after count none s step) (trace_after count none s trace step) (count_stays none m step ∙ c)
     (subst (λ n. Agrees group_of (moment_after none m step) (serial_after n none s step)) c (agree_step group_of none m s step a meet.0))
-    (subst (λ n. Traced group_of start (moment_after none m step) (trace_after n none s trace step)) c (trace_step group_of start none m s trace step a meet.0 fine.0 t))
-    meet.1 fine.1
+    (subst (λ n. Traced group_of start (moment_after none m step) (trace_after n none s trace step)) c (trace_step group_of start none m s trace step a meet.0 (All-head IsFlightStep step steps fine) t))
+    meet.1 (All-tail IsFlightStep step steps fine)
 
 count_all : {P : Type 0} (none : List ℕ) (schedule : List (Step P)) (m : Moment P) → (ran none m schedule).rules.count ≡ m.rules.count
 count_all none [] m = refl

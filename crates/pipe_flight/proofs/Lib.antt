@@ -6,6 +6,7 @@ pub mod OrderLemmas
 pub mod SerialLemmas
 pub mod TraceLemmas
 pub mod GroupLemmas
+pub mod EndLemmas
 pub mod LawLemmas
 pub mod PassLemmas
 pub mod MoveLemmas

@@ -51,21 +51,17 @@ abbrev pub GroupsAgree : {P : Type 0} → (ℕ → ℕ) → ℕ → Contents →
 GroupsAgree group_of count start trace contents flight =
     (a i : ℕ) → group_of a < count → contents a i ≡ play start (without_last (not_passed (group_of a) flight) trace) a i
 
--- steps of a flight; rules change when no old packet is in flight, which advances can bring about
-abbrev pub IsFine : {P : Type 0} → Moment P → Step P → Type 0
-IsFine m (Enter packet) = Unit {0}
-IsFine m (Advance group) = Unit {0}
-IsFine m (Change next fill) = All (λ one. one.kept ≡ false) m.flight
-IsFine m Show = ⊥
-IsFine m (Rearrange next effect) = ⊥
-
-abbrev pub AreFine : {P : Type 0} → List ℕ → Moment P → List (Step P) → Type 0
-AreFine none m [] = Unit {0}
-AreFine none m (step ∷ steps) = IsFine m step × AreFine none (moment_after none m step) steps
+-- all steps but one that changes registers at will
+abbrev pub IsFlightStep : {P : Type 0} → Step P → Type 0
+IsFlightStep (Enter packet) = Unit {0}
+IsFlightStep (Advance group) = Unit {0}
+IsFlightStep (Change next fill) = Unit {0}
+IsFlightStep Show = Unit {0}
+IsFlightStep (Rearrange next effect) = ⊥
 
 abbrev pub KeepsGroupOrder : Type 0 → Type 0
 KeepsGroupOrder P = (group_of : ℕ → ℕ) (none : List ℕ) (count : ℕ) (now : Stages P) (contents : Contents) (schedule : List (Step P))
     → 0 < count → AreStaged group_of now → MeetAll group_of none (first_moment count now contents) schedule
-    → AreFine none (first_moment count now contents) schedule
+    → All IsFlightStep schedule
     → GroupsAgree group_of count contents (traced count none (first_serial now contents) [] schedule)
     (ran none (first_moment count now contents) schedule).contents (ran none (first_moment count now contents) schedule).flight
