@@ -32,9 +32,9 @@ traced_as : {P : Type 0} (group_of : ℕ → ℕ) (start : Contents) (rules : Ve
     → Traced group_of start (record { flight = new_flight; rules = rules; contents = new_contents; calls = new_calls }) trace
 traced_as {P} group_of start rules calls new_calls trace {flight} {new_flight} {contents} {new_contents} f c t =
     let renamed : Traced group_of start (record { flight = flight; rules = rules; contents = contents; calls = new_calls }) trace =
-      record { backward = t.backward; order = t.order; follows = t.follows; groups = t.groups } in
+    record { backward = t.backward; order = t.order; follows = t.follows; groups = t.groups } in
     subst (λ (fs : List (Flying P)). Traced group_of start (record { flight = fs; rules = rules; contents = new_contents; calls = new_calls }) trace) f
-      (subst (λ (x : Contents). Traced group_of start (record { flight = flight; rules = rules; contents = x; calls = new_calls }) trace) c renamed)
+    (subst (λ (x : Contents). Traced group_of start (record { flight = flight; rules = rules; contents = x; calls = new_calls }) trace) c renamed)
 
 -- the first packet passes its group, and then the others that are left
 rest_first : {P : Type 0} (group_of : ℕ → ℕ) (rules : Versions P) (contents : Contents) (one : Flying P) → BothStaged group_of rules → one.group < rules.count
@@ -55,19 +55,19 @@ trace_first {P} group_of start rules (suc n) contents calls one back trace both 
     let after : Contents = all_made contents here in
     let whole = rest_first group_of rules contents one both falls.0 in
     ⊎_elim
-      (λ (same : next.group ≡ rules.count).
-        let left : if_left rules.count next ≡ [] = ap (λ b. cond b [] (next ∷ [])) (eq-eqb next.group rules.count same) in
-        let none : rest_of rules after next ≡ [] = rest_none rules after next (omega arith) in
-        traced_as group_of start rules calls calls trace refl (sym (ap (all_made after) none) ∙ whole)
-          (trace_moved group_of start rules contents calls [] one back back here calls trace both falls t (sym (ap (λ fs. fs ++ back) left)) refl))
-      (λ (other : next.group ≢ rules.count).
-        let test : (next.group == rules.count) ≡ false = not_eq next.group rules.count other in
-        let left : if_left rules.count next ≡ next ∷ [] = ap (λ b. cond b [] (next ∷ [])) test in
-        let falls_next : Falls rules.count (next ∷ back) = falls_move rules.count [] one next back refl (omega (arith, falls.0)) falls (All-nil (λ (f : Flying P). f.group ≢ one.group + 1)) in
-        traced_as group_of start rules calls calls trace refl whole
-          (trace_first group_of start rules n after calls next back trace both (omega arith) falls_next
-            (trace_moved group_of start rules contents calls [] one back (next ∷ back) here calls trace both falls t (sym (ap (λ fs. fs ++ back) left)) refl)))
-      (cases_eq next.group rules.count)
+    (λ (same : next.group ≡ rules.count).
+    let left : if_left rules.count next ≡ [] = ap (λ b. cond b [] (next ∷ [])) (eq-eqb next.group rules.count same) in
+    let none : rest_of rules after next ≡ [] = rest_none rules after next (omega arith) in
+    traced_as group_of start rules calls calls trace refl (sym (ap (all_made after) none) ∙ whole)
+    (trace_moved group_of start rules contents calls [] one back back here calls trace both falls t (sym (ap (λ fs. fs ++ back) left)) refl))
+    (λ (other : next.group ≢ rules.count).
+    let test : (next.group == rules.count) ≡ false = not_eq next.group rules.count other in
+    let left : if_left rules.count next ≡ next ∷ [] = ap (λ b. cond b [] (next ∷ [])) test in
+    let falls_next : Falls rules.count (next ∷ back) = falls_move rules.count [] one next back refl (omega (arith, falls.0)) falls (All-nil (λ (f : Flying P). f.group ≢ one.group + 1)) in
+    traced_as group_of start rules calls calls trace refl whole
+    (trace_first group_of start rules n after calls next back trace both (omega arith) falls_next
+    (trace_moved group_of start rules contents calls [] one back (next ∷ back) here calls trace both falls t (sym (ap (λ fs. fs ++ back) left)) refl)))
+    (cases_eq next.group rules.count)
 
 -- the packets in front pass to the end, one after the other
 trace_front : {P : Type 0} (group_of : ℕ → ℕ) (start : Contents) (rules : Versions P) (contents : Contents) (calls : List Call) (front back : List (Flying P)) (trace : List Item)
@@ -78,8 +78,8 @@ trace_front group_of start rules contents calls [] back trace both falls t = t
 trace_front group_of start rules contents calls (one ∷ front) back trace both falls t =
     let whole : one.group + (rules.count - one.group) ≡ rules.count = omega (arith, falls.0) in
     traced_as group_of start rules calls calls trace refl (first_passes rules contents one front)
-      (trace_front group_of start rules (all_made contents (rest_of rules contents one)) calls front back trace both (falls_leave rules.count [] one (front ++ back) falls)
-        (trace_first group_of start rules (rules.count - one.group) contents calls one (front ++ back) trace both whole falls t))
+    (trace_front group_of start rules (all_made contents (rest_of rules contents one)) calls front back trace both (falls_leave rules.count [] one (front ++ back) falls)
+    (trace_first group_of start rules (rules.count - one.group) contents calls one (front ++ back) trace both whole falls t))
 
 -- ---- the steps that pass packets to the end
 
@@ -88,9 +88,9 @@ pub trace_show : {P : Type 0} (group_of : ℕ → ℕ) (start : Contents) (none 
 trace_show {P} group_of start none m s trace a t =
     let whole : m.flight ≡ m.flight ++ [] = sym (append-nil m.flight) in
     traced_as group_of start m.rules m.calls (m.calls ++ drained m.rules m.contents m.flight) trace refl refl
-      (trace_front group_of start m.rules m.contents m.calls m.flight [] trace (record { now = a.now_staged; old = a.old_staged })
-        (subst (Falls m.rules.count) whole a.flight.falls)
-        (traced_as group_of start m.rules m.calls m.calls trace whole refl t))
+    (trace_front group_of start m.rules m.contents m.calls m.flight [] trace (record { now = a.now_staged; old = a.old_staged })
+    (subst (Falls m.rules.count) whole a.flight.falls)
+    (traced_as group_of start m.rules m.calls m.calls trace whole refl t))
 
 pub trace_olds : {P : Type 0} (group_of : ℕ → ℕ) (start : Contents) (m : Moment P) (s : Serial P) (trace : List Item) → Agrees group_of m s → Traced group_of start m trace → Traced group_of start (olds_passed m) trace
 trace_olds {P} group_of start m s trace a t =
@@ -98,9 +98,9 @@ trace_olds {P} group_of start m s trace a t =
     let presents = filter is_present m.flight in
     let split = old_split m.flight a.flight.old_first in
     traced_as group_of start m.rules m.calls (m.calls ++ drained m.rules m.contents olds) trace refl refl
-      (trace_front group_of start m.rules m.contents m.calls olds presents trace (record { now = a.now_staged; old = a.old_staged })
-        (subst (Falls m.rules.count) split a.flight.falls)
-        (traced_as group_of start m.rules m.calls m.calls trace split refl t))
+    (trace_front group_of start m.rules m.contents m.calls olds presents trace (record { now = a.now_staged; old = a.old_staged })
+    (subst (Falls m.rules.count) split a.flight.falls)
+    (traced_as group_of start m.rules m.calls m.calls trace split refl t))
 
 pub trace_changed : {P : Type 0} (group_of : ℕ → ℕ) (start : Contents) (none : List ℕ) (m : Moment P) (s : Serial P) (trace : List Item) (next : Stages P) (fill : Fill) → Agrees group_of m s → Avoids m.rules.now fill → Traced group_of start m trace
     → Traced group_of start (moment_after none m (Change next fill)) (trace_after m.rules.count none s trace (Change next fill))
@@ -110,6 +110,6 @@ trace_changed {P} group_of start none m s trace next fill a avoids t =
     let only = presents_only presents new in
     let passed = olds_passed m in
     traced_as group_of start (committed m.rules next) (moment_after none passed (Change next fill)).calls (moment_after none m (Change next fill)).calls (Filled fill ∷ trace)
-      (ap (map kept_now) only.1)
-      (ap (λ fs. filled fill (drain m.rules passed.contents fs)) only.0)
-      (trace_change group_of start none passed s trace next fill new avoids (trace_olds group_of start m s trace a t))
+    (ap (map kept_now) only.1)
+    (ap (λ fs. filled fill (drain m.rules passed.contents fs)) only.0)
+    (trace_change group_of start none passed s trace next fill new avoids (trace_olds group_of start m s trace a t))
