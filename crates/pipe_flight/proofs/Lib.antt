@@ -11,3 +11,4 @@ pub mod LawLemmas
 pub mod PassLemmas
 pub mod MoveLemmas
 pub mod KeepLemmas
+pub mod Values
