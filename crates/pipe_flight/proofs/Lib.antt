@@ -11,4 +11,5 @@ pub mod LawLemmas
 pub mod PassLemmas
 pub mod MoveLemmas
 pub mod KeepLemmas
+pub mod PipeLemmas
 pub mod Values

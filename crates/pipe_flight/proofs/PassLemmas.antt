@@ -26,7 +26,7 @@ use Rattle.pipe_core.specs.Flow.{stages_in}
 use Rattle.reg_file.specs.Calls.{MakesOver}
 
 -- no array is one of a group that does not exist
-past_all : (groups : List GroupShape) (group : ℕ) → length groups ≤ group → (get_or groups group no_group).cmus ≡ 0
+pub past_all : (groups : List GroupShape) (group : ℕ) → length groups ≤ group → (get_or groups group no_group).cmus ≡ 0
 past_all groups group le = ap (λ (g : GroupShape). g.cmus) (get_or-eq_default groups no_group le)
 
 in_its_group : (rules : Rules) (group array : ℕ) → first_in rules group ≤ array → array < first_in rules group + cmus_in rules group → group_number rules.geometry array ≡ group

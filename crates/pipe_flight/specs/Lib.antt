@@ -4,3 +4,4 @@ pub mod Schedules
 pub mod Traces
 pub mod Drains
 pub mod States
+pub mod Pipes

@@ -3,6 +3,7 @@ ghost use Rattle.pkt_headers.specs.declared.packets.Packet.{Packet};
 ghost use Rattle.pipe_flight.specs.Schedules.{KeepsSerialOrder};
 ghost use Rattle.pipe_flight.specs.Traces.{KeepsGroupOrder};
 ghost use Rattle.pipe_flight.specs.Drains.{DrainsEntered, DrainsFilled};
+ghost use Rattle.pipe_flight.specs.Pipes.{PipesAreStaged, PipesAvoidUnnamed};
 
 /// On each array the calls come in the order of the serial run, and once nobody is in flight they
 /// are those of the serial run, and so are the registers.
@@ -29,3 +30,17 @@ pub fn enter_drain()
 pub fn fill_drain()
     ensures { DrainsFilled Packet }
 {}
+
+/// The rules of a pipe make in a group calls on the group's arrays alone.
+#[tactic(auto, using(crate::proofs::PipeLemmas::pipes_staged))]
+pub fn calls_by_group()
+    ensures { PipesAreStaged }
+{
+}
+
+/// The rules of a pipe make no call on a register that no entry names.
+#[tactic(auto, using(crate::proofs::PipeLemmas::unnamed_avoided))]
+pub fn calls_where_named()
+    ensures { PipesAvoidUnnamed }
+{
+}

@@ -9,5 +9,7 @@ mod tests;
 mod waiting;
 
 pub use flights::Flight;
-pub use laws::{enter_drain, fill_drain, group_order, serial_order};
+pub use laws::{
+    calls_by_group, calls_where_named, enter_drain, fill_drain, group_order, serial_order,
+};
 pub use std::alloc::AllocError as OutOfMemory;
