@@ -56,7 +56,7 @@ falls_below : {P : Type 0} (high : ℕ) (front : List (Flying P)) (one : Flying 
 falls_below high [] one back f e = refl
 falls_below high (first ∷ front) one back f e = (let below = falls_here first.group front one back f.1 in absurd (omega (arith, f.0, below)))
 
-rev_length : {A : Type 0} (xs : List A) → length (rev xs) ≡ length xs
+pub rev_length : {A : Type 0} (xs : List A) → length (rev xs) ≡ length xs
 rev_length [] = refl
 rev_length (x ∷ xs) = (let rest = rev_length xs in simp length-append (omega arith))
 

@@ -1,28 +1,31 @@
 -- The laws of a flight, for every schedule.
-use Rattle.std.proofs.Common.{◌≡◌, ℕ, zero, suc, ◌+◌, ◌-◌, ◌<◌, ◌≤◌, Bool, true, false, cond, List, [], ◌∷◌, ◌++◌, refl, ap, ap₂, sym, ◌∙◌, subst, arith, filter, eq-eqb, ⊎_elim}
+use Rattle.std.proofs.Common.{◌≡◌, ℕ, zero, suc, ◌+◌, ◌-◌, ◌<◌, ◌≤◌, Bool, true, false, cond, List, [], ◌∷◌, ◌++◌, length, refl, ap, ap₂, sym, ◌∙◌, subst, arith, filter, eq-eqb, ⊎_elim}
 use Rattle.std.specs.Prelude.{◌==◌, ◌⊎◌}
 use Rattle.std.specs.List.{All}
 use Rattle.std.proofs.lemmas.Bool.{cases_eq}
 use Rattle.std.proofs.lemmas.Bool.Decides.{nat_tests}
-use Rattle.std.proofs.lemmas.List.{append-nil}
+use Rattle.std.proofs.lemmas.List.{append-nil, append_assoc}
 use Rattle.std.proofs.lemmas.List.Elements.{All-nil, All-cons, All-head, All-tail, filter-append}
 use Rattle.reg_file.specs.declared.traits.Call.{Call}
 use Rattle.reg_file.specs.Registers.{Contents}
 use Rattle.reg_file.specs.Calls.{is_on, handed, all_made}
 use Rattle.pipe_core.specs.Flow.{Stages, flow}
-use Rattle.pipe_flight.specs.Flights.{Flying, Versions, stages_of, calls_next, drained}
+use Rattle.pipe_flight.specs.Flights.{Flying, Versions, stages_of, calls_next, drained, drain}
+use Rattle.pipe_flight.specs.Orders.{Falls}
 use Rattle.pipe_flight.specs.Schedules.{Fill, filled, Step, Moment, moment_after, Serial, serial_after, AreAt, AreStaged, Avoids, Meets, MeetAll, first_moment, first_serial, ran, ran_serial, KeepsSerialOrder}
-use Rattle.pipe_flight.specs.Traces.{Item, trace_after, traced, IsFlightStep, KeepsGroupOrder}
-use Rattle.pipe_flight.proofs.Agreements.{Agrees, IsOf, Traced}
+use Rattle.pipe_flight.specs.Traces.{Item, trace_after, traced, IsFlightStep, KeepsGroupOrder, calls_from_last, is_in, KeepsPacketCalls}
+use Rattle.pipe_flight.proofs.Agreements.{Agrees, rev, IsOf, Follows, Traced}
 use Rattle.pipe_flight.specs.Schedules.Step.{Enter, Advance, Change, Show, Rearrange}
 use Rattle.pipe_flight.proofs.PlaceLemmas.{flow_at, FromGroup, staged_from}
 use Rattle.pipe_flight.specs.Drains.{DrainsEntered, DrainsFilled, with_now}
 use Rattle.pipe_flight.proofs.DrainLemmas.{BothStaged, stages_staged, Reaches, drained_same, drained_at}
 use Rattle.pipe_flight.proofs.DrainLemmas.{enter_drain as entered_drain}
 use Rattle.pipe_flight.proofs.CommitLemmas.{kept_drained}
-use Rattle.pipe_flight.proofs.OrderLemmas.{somebody}
+use Rattle.pipe_flight.proofs.OrderLemmas.{somebody, falls_here}
+use Rattle.pipe_flight.proofs.TraceLemmas.{rev_append, rev_rev}
+use Rattle.pipe_flight.specs.Traces.Item.{Made, Filled}
 use Rattle.pipe_flight.proofs.SerialLemmas.{fill_past, agree_all, agree_step, calls_in_front, equal_at_end, count_stays}
-use Rattle.pipe_flight.proofs.GroupLemmas.{trace_enter, trace_advance}
+use Rattle.pipe_flight.proofs.GroupLemmas.{trace_enter, trace_advance, rev_length}
 use Rattle.pipe_flight.proofs.EndLemmas.{trace_changed, trace_show}
 
 agree_first : {P : Type 0} (group_of : ℕ → ℕ) (count : ℕ) (now : Stages P) (contents : Contents) → 0 < count → AreStaged group_of now → Agrees group_of (first_moment count now contents) (first_serial now contents)
@@ -68,42 +71,21 @@ count_all : {P : Type 0} (none : List ℕ) (schedule : List (Step P)) (m : Momen
 count_all none [] m = refl
 count_all none (step ∷ steps) m = count_all none steps (moment_after none m step) ∙ count_stays none m step
 
+-- the trace of a whole schedule
+traced_end : {P : Type 0} (group_of : ℕ → ℕ) (none : List ℕ) (count : ℕ) (now : Stages P) (contents : Contents) (schedule : List (Step P))
+    → 0 < count → AreStaged group_of now → MeetAll group_of none (first_moment count now contents) schedule → All IsFlightStep schedule
+    → Traced group_of contents (ran none (first_moment count now contents) schedule) (traced count none (first_serial now contents) [] schedule)
+traced_end group_of none count now contents schedule some staged meet fine =
+    trace_all group_of contents none count schedule (first_moment count now contents) (first_serial now contents) [] refl (agree_first group_of count now contents some staged)
+    (record { backward = []; order = refl; follows = tt; groups = λ a i lt. refl }) meet fine
+
 pub group_order : {P : Type 0} → KeepsGroupOrder P
 group_order group_of none count now contents schedule some staged meet fine =
     let m = first_moment count now contents in
-    let t = trace_all group_of contents none count schedule m (first_serial now contents) [] refl (agree_first group_of count now contents some staged)
-    (record { backward = []; order = refl; follows = tt; groups = λ a i lt. refl }) meet fine in
+    let t = traced_end group_of none count now contents schedule some staged meet fine in
     λ a i lt. t.groups a i (subst (λ n. group_of a < n) (sym (count_all none schedule m)) lt)
 
--- ---- the registers that packets in flight will leave
-
-pub enter_drain : {P : Type 0} → DrainsEntered P
-enter_drain rules contents flight none packet = entered_drain rules contents flight none packet
-
-olds_reach : {P : Type 0} (rules : Versions P) (fill : Fill) (flight : List (Flying P)) → All (λ (one : Flying P). one.kept ≡ true) flight → Avoids rules.old fill
-    → All (Reaches (λ a i. fill.test a i ≡ false) rules) flight
-olds_reach rules fill [] olds avoids = All-nil (Reaches (λ a i. fill.test a i ≡ false) rules)
-olds_reach {P} rules fill (one ∷ flight) olds avoids =
-    let Off : ℕ → ℕ → Type 0 = λ a i. fill.test a i ≡ false in
-    let kept = All-head (λ (one : Flying P). one.kept ≡ true) one flight olds in
-    All-cons (Reaches Off rules) one flight
-    (record { at = λ g o le. subst (λ (b : Bool). AreAt Off ((cond b rules.old rules.now) g one.packet o)) (sym kept) (avoids g one.packet o) })
-    (olds_reach rules fill flight (All-tail (λ (one : Flying P). one.kept ≡ true) one flight olds) avoids)
-
-pub fill_drain : {P : Type 0} → DrainsFilled P
-fill_drain rules next fill contents flight olds avoids =
-    let Off : ℕ → ℕ → Type 0 = λ a i. fill.test a i ≡ false in
-    let reach = olds_reach rules fill flight olds avoids in
-    let same : drained (with_now rules next) (filled fill contents) flight ≡ drained rules contents flight =
-    kept_drained (with_now rules next) rules (filled fill contents) flight refl refl olds
-    ∙ drained_same Off rules (filled fill contents) contents flight reach (record { same = λ x y off. ap (λ b. cond b (fill.value x y) (contents x y)) off }) in
-    ap (all_made (filled fill contents)) same
-    ∙ fill_past fill contents (drained rules contents flight) (drained_at Off rules contents flight reach)
-
--- ---- the calls of an advance are those of the packet's item on the group
-
-abbrev pub is_in : (ℕ → ℕ) → ℕ → Call → Bool
-is_in group_of group call = group_of call.array == group
+-- ---- the calls of an advance are those of the packet on the group
 
 all_in : (group_of : ℕ → ℕ) (group : ℕ) (calls : List Call) → All (λ (c : Call). group_of c.array ≡ group) calls → filter (is_in group_of group) calls ≡ calls
 all_in group_of group [] h = refl
@@ -134,3 +116,57 @@ next_calls group_of rules contents one calls both lt is =
     ∙ ap₂ (λ xs ys. xs ++ ys) (all_in group_of one.group here (staged.there one.group one.packet one.outs))
     (none_in group_of one.group (λ g. one.group + 1 ≤ g) rest (flow_at (FromGroup group_of (one.group + 1)) stages contents one.packet m (one.group + 1) (handed contents here one.outs) (staged_from group_of stages one.packet (one.group + 1) staged)) (λ l. omega arith))
     ∙ append-nil here)
+
+-- the packet's item in a trace, where so many packets follow
+item_calls : {P : Type 0} (group_of : ℕ → ℕ) (rules : Versions P) (contents : Contents) (later : List (Flying P)) (one : Flying P) (earlier : List (Flying P)) (trace : List Item) → BothStaged group_of rules → one.group < rules.count
+    → Follows group_of rules contents (later ++ one ∷ earlier) trace → calls_next rules one ≡ filter (is_in group_of one.group) (calls_from_last (length later) trace)
+item_calls group_of rules contents [] one earlier [] both lt h = absurd h
+item_calls group_of rules contents (other ∷ later) one earlier [] both lt h = absurd h
+item_calls group_of rules contents [] one earlier (Made calls ∷ items) both lt h = next_calls group_of rules (drain rules contents (rev earlier)) one calls both lt h.0
+item_calls group_of rules contents (other ∷ later) one earlier (Made calls ∷ items) both lt h = item_calls group_of rules contents later one earlier items both lt h.1
+item_calls group_of rules contents [] one earlier (Filled fill ∷ items) both lt h = item_calls group_of rules contents [] one earlier items both lt h.1
+item_calls group_of rules contents (other ∷ later) one earlier (Filled fill ∷ items) both lt h = item_calls group_of rules contents (other ∷ later) one earlier items both lt h.1
+
+backward_is : {P : Type 0} (flight backward front : List (Flying P)) (one : Flying P) (back : List (Flying P)) → flight ≡ rev backward → flight ≡ front ++ one ∷ back → backward ≡ rev back ++ one ∷ rev front
+backward_is flight backward front one back order split =
+    sym (rev_rev backward) ∙ ap rev (sym order ∙ split) ∙ rev_append front (one ∷ back) ∙ append_assoc (rev back) (one ∷ []) (rev front)
+
+pub packet_calls : {P : Type 0} → KeepsPacketCalls P
+packet_calls {P} group_of none count now contents schedule front one back some staged meet fine split =
+    let m = ran none (first_moment count now contents) schedule in
+    let s = ran_serial count none (first_serial now contents) schedule in
+    let trace = traced count none (first_serial now contents) [] schedule in
+    let t = traced_end group_of none count now contents schedule some staged meet fine in
+    let a = agree_all group_of none count schedule (first_moment count now contents) (first_serial now contents) refl (agree_first group_of count now contents some staged) meet in
+    let lt = falls_here m.rules.count front one back (subst (Falls m.rules.count) split a.flight.falls) in
+    item_calls group_of m.rules m.contents (rev back) one (rev front) trace (record { now = a.now_staged; old = a.old_staged }) lt
+      (subst (λ (fs : List (Flying P)). Follows group_of m.rules m.contents fs trace) (backward_is m.flight t.backward front one back t.order split) t.follows)
+    ∙ ap (λ n. filter (is_in group_of one.group) (calls_from_last n trace)) (rev_length back)
+
+-- ---- the registers that packets in flight will leave
+
+pub enter_drain : {P : Type 0} → DrainsEntered P
+enter_drain rules contents flight none packet = entered_drain rules contents flight none packet
+
+olds_reach : {P : Type 0} (rules : Versions P) (fill : Fill) (flight : List (Flying P)) → All (λ (one : Flying P). one.kept ≡ true) flight → Avoids rules.old fill
+    → All (Reaches (λ a i. fill.test a i ≡ false) rules) flight
+olds_reach rules fill [] olds avoids = All-nil (Reaches (λ a i. fill.test a i ≡ false) rules)
+olds_reach {P} rules fill (one ∷ flight) olds avoids =
+    let Off : ℕ → ℕ → Type 0 = λ a i. fill.test a i ≡ false in
+    let kept = All-head (λ (one : Flying P). one.kept ≡ true) one flight olds in
+    All-cons (Reaches Off rules) one flight
+    (record { at = λ g o le. subst (λ (b : Bool). AreAt Off ((cond b rules.old rules.now) g one.packet o)) (sym kept) (avoids g one.packet o) })
+    (olds_reach rules fill flight (All-tail (λ (one : Flying P). one.kept ≡ true) one flight olds) avoids)
+
+pub fill_drain : {P : Type 0} → DrainsFilled P
+fill_drain rules next fill contents flight olds avoids =
+    let Off : ℕ → ℕ → Type 0 = λ a i. fill.test a i ≡ false in
+    let reach = olds_reach rules fill flight olds avoids in
+    let same : drained (with_now rules next) (filled fill contents) flight ≡ drained rules contents flight =
+    kept_drained (with_now rules next) rules (filled fill contents) flight refl refl olds
+    ∙ drained_same Off rules (filled fill contents) contents flight reach (record { same = λ x y off. ap (λ b. cond b (fill.value x y) (contents x y)) off }) in
+    ap (all_made (filled fill contents)) same
+    ∙ fill_past fill contents (drained rules contents flight) (drained_at Off rules contents flight reach)
+
+-- ---- the calls of an advance are those of the packet's item on the group
+

@@ -27,7 +27,7 @@ use Rattle.pipe_core.specs.Groups.{keys_in, array_calls, group_calls}
 use Rattle.pipe_core.specs.Flow.{stages_in}
 use Rattle.pipe_core.proofs.RangeLemmas.{all_flat}
 use Rattle.pipe_core.proofs.RuleLemmas.{entries_stand}
-use Rattle.pipe_flight.specs.Schedules.{Fill, AreAt, AreStaged, Avoids}
+use Rattle.pipe_flight.specs.Schedules.{AreAt}
 use Rattle.pipe_flight.specs.Pipes.{Names, PipesAreStaged, PipesAvoidUnnamed}
 use Rattle.pipe_flight.proofs.PassLemmas.{staged, past_all}
 

@@ -6,8 +6,8 @@ use Rattle.reg_file.specs.Registers.{Contents}
 use Rattle.pipe_core.specs.Flow.{Stages}
 use Rattle.pipe_flight.specs.Flights.{Flying, drained}
 use Rattle.pipe_flight.specs.Schedules.{Fill, Step, Moment, Serial, first_moment, first_serial, ran, ran_serial}
-use Rattle.pipe_flight.specs.Schedules.Step.{Enter, Advance, Change, Show}
 use Rattle.pipe_flight.specs.Traces.{not_passed}
+use Rattle.pipe_flight.specs.Schedules.Step.{Enter, Advance, Change, Show}
 
 abbrev counts : Stages ℕ
 counts group packet outs = record { array = group; addr = packet; op = CondAdd 1 100 } ∷ []

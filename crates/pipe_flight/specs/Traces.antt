@@ -1,11 +1,11 @@
 -- What the serial run did to the registers of a group, and which of it the packets in flight have done.
-use Rattle.std.specs.Prelude.{◌≡◌, ℕ, zero, suc, ◌+◌, ◌<◌, false, if◌then◌else◌, nat_le, List, [], ◌∷◌}
+use Rattle.std.specs.Prelude.{◌≡◌, ℕ, zero, suc, ◌+◌, ◌<◌, ◌==◌, Bool, if◌then◌else◌, nat_le, List, [], ◌∷◌, ◌++◌, filter, length}
 use Rattle.std.specs.List.{All}
 use Rattle.reg_file.specs.declared.traits.Call.{Call}
 use Rattle.reg_file.specs.Registers.{Contents}
 use Rattle.reg_file.specs.Calls.{all_made}
 use Rattle.pipe_core.specs.Flow.{Stages, flow}
-use Rattle.pipe_flight.specs.Flights.{Flying}
+use Rattle.pipe_flight.specs.Flights.{Flying, calls_next}
 use Rattle.pipe_flight.specs.Schedules.{Fill, filled, Step, Serial, Moment, AreStaged, moment_after, serial_after, MeetAll, first_moment, first_serial, ran}
 use Rattle.pipe_flight.specs.Schedules.Step.{Enter, Advance, Change, Show, Rearrange}
 
@@ -65,3 +65,23 @@ KeepsGroupOrder P = (group_of : ℕ → ℕ) (none : List ℕ) (count : ℕ) (no
     → All IsFlightStep schedule
     → GroupsAgree group_of count contents (traced count none (first_serial now contents) [] schedule)
     (ran none (first_moment count now contents) schedule).contents (ran none (first_moment count now contents) schedule).flight
+
+-- ---- which calls an advance makes
+
+-- the calls of a packet, by how many packets entered after it
+abbrev pub calls_from_last : ℕ → List Item → List Call
+calls_from_last n [] = []
+calls_from_last zero (Made calls ∷ items) = calls
+calls_from_last (suc n) (Made calls ∷ items) = calls_from_last n items
+calls_from_last n (Filled fill ∷ items) = calls_from_last n items
+
+abbrev pub is_in : (ℕ → ℕ) → ℕ → Call → Bool
+is_in group_of group call = group_of call.array == group
+
+-- the calls that a packet makes in its group are those of its calls in the serial run that are on the group's arrays
+abbrev pub KeepsPacketCalls : Type 0 → Type 0
+KeepsPacketCalls P = (group_of : ℕ → ℕ) (none : List ℕ) (count : ℕ) (now : Stages P) (contents : Contents) (schedule : List (Step P)) (front : List (Flying P)) (one : Flying P) (back : List (Flying P))
+    → 0 < count → AreStaged group_of now → MeetAll group_of none (first_moment count now contents) schedule
+    → All IsFlightStep schedule → (ran none (first_moment count now contents) schedule).flight ≡ front ++ one ∷ back
+    → calls_next (ran none (first_moment count now contents) schedule).rules one
+      ≡ filter (is_in group_of one.group) (calls_from_last (length back) (traced count none (first_serial now contents) [] schedule))

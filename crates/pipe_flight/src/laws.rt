@@ -1,7 +1,7 @@
 //! The laws of packets in flight, for every schedule.
 ghost use Rattle.pkt_headers.specs.declared.packets.Packet.{Packet};
 ghost use Rattle.pipe_flight.specs.Schedules.{KeepsSerialOrder};
-ghost use Rattle.pipe_flight.specs.Traces.{KeepsGroupOrder};
+ghost use Rattle.pipe_flight.specs.Traces.{KeepsGroupOrder, KeepsPacketCalls};
 ghost use Rattle.pipe_flight.specs.Drains.{DrainsEntered, DrainsFilled};
 ghost use Rattle.pipe_flight.specs.Pipes.{PipesAreStaged, PipesAvoidUnnamed};
 
@@ -18,6 +18,13 @@ pub fn serial_order()
 pub fn group_order()
     ensures { KeepsGroupOrder Packet }
 {}
+
+/// The calls of an advance are those of the packet in the serial run that are on the group's arrays.
+#[tactic(auto, using(crate::proofs::LawLemmas::packet_calls))]
+pub fn packet_calls()
+    ensures { KeepsPacketCalls Packet }
+{
+}
 
 /// A packet that enters comes after all others.
 #[tactic(auto, using(crate::proofs::LawLemmas::enter_drain))]

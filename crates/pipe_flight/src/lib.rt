@@ -10,6 +10,7 @@ mod waiting;
 
 pub use flights::Flight;
 pub use laws::{
-    calls_by_group, calls_where_named, enter_drain, fill_drain, group_order, serial_order,
+    calls_by_group, calls_where_named, enter_drain, fill_drain, group_order, packet_calls,
+    serial_order,
 };
 pub use std::alloc::AllocError as OutOfMemory;
