@@ -10,6 +10,7 @@ pub mod EndLemmas
 pub mod LawLemmas
 pub mod PassLemmas
 pub mod MoveLemmas
+pub mod QueueLemmas
 pub mod KeepLemmas
 pub mod PipeLemmas
 pub mod Values

@@ -2,12 +2,13 @@
 use Rattle.std.specs.Prelude.{◌≡◌, ℕ, ◌+◌, ◌≤◌, true, List, [], ◌∷◌, ◌++◌, filter, map, length, Option}
 use Rattle.reg_file.specs.declared.traits.Call.{Call}
 use Rattle.reg_file.specs.Registers.{Contents}
-use Rattle.reg_file.specs.Calls.{Makes}
+use Rattle.reg_file.specs.Calls.{Makes, all_made}
 use Rattle.pkt_headers.specs.declared.packets.Packet.{Packet}
 use Rattle.pipe_core.specs.Rules.{Rules}
 use Rattle.pipe_core.specs.Flow.{stages_in}
 use Rattle.pipe_flight.specs.Flights.{Flying, Versions, calls_next}
 use Rattle.pipe_flight.specs.Orders.{IsFlight, if_left, is_old, is_present}
+use Rattle.pipe_flight.specs.Schedules.{calls_of_group, passed_group}
 use Rattle.pipe_flight.specs.declared.waiting.Waiting.{Waiting}
 
 -- the packets in order of entry, and the old rules
@@ -44,6 +45,11 @@ pub record MovesOn (rules : Versions Packet) (group : ℕ) (flight new_flight : 
   pub outs : List ℕ
   pub new_split : new_flight ≡ front ++ (if_left rules.count (record { packet = one.packet; group = one.group + 1; kept = one.kept; outs = outs }) ++ back)
   pub makes : Makes (calls_next rules one) one.outs outs contents new_contents list new_list
+
+-- that is a step of a schedule
+pub record IsAdvance (rules : Versions Packet) (group : ℕ) (flight new_flight : List (Flying Packet)) (old now : Contents) : Type 0 where
+  pub flight_is : new_flight ≡ passed_group rules old group flight
+  pub contents_are : now ≡ all_made old (calls_of_group rules group flight)
 
 -- ---- of packets as the code keeps them
 

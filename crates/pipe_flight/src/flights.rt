@@ -6,8 +6,8 @@ ghost use Rattle.reg_file.specs.Calls.{MakesOver};
 ghost use Rattle.pipe_core.specs.Rules.{SameShape, IsShaped};
 ghost use Rattle.pipe_core.specs.Groups.{no_carries};
 ghost use Rattle.pipe_flight.specs.Flights.{entering, drained, drain, kept_now};
-ghost use Rattle.pipe_flight.specs.Orders.{NobodyAt, is_old, is_present};
-ghost use Rattle.pipe_flight.specs.States.{group_count, versions, MovesOn, NoOld};
+ghost use Rattle.pipe_flight.specs.Orders.{NobodyAt, IsFlight, is_old, is_present};
+ghost use Rattle.pipe_flight.specs.States.{group_count, versions, MovesOn, IsAdvance, NoOld};
 
 use crate::passing::pass_from;
 use crate::waiting::{Waiting, any_at, first_old, keep_all, place_of};
@@ -49,10 +49,12 @@ impl Flight {
         Ok(Flight { waiting, before })
     }
 
-    /// Whether no packet stands before the group.
+    /// Whether no packet stands before the group. In order of entry the groups of packets fall, and
+    /// old packets come before present ones.
     pub fn vacant(&self, group: u32) -> bool
         requires { group < group_count self.now.before }
-        ensures { IsTrue result ↔ NobodyAt group self.now.flight }
+        ensures vacant { IsTrue result ↔ NobodyAt group self.now.flight }
+        ensures order { IsFlight (group_count self.now.before) self.now.flight }
     {
         !any_at(&self.waiting, group)
     }
@@ -89,6 +91,8 @@ impl Flight {
             ≡ drain (versions now.now self.old.before) contents self.old.flight) (R.contents regs.old) (R.contents regs.new) }
         ensures moves { MovesOn (versions now.now self.old.before) group self.old.flight self.new.flight
             (R.contents regs.old) (R.contents regs.new) (R.calls regs.old) (R.calls regs.new) }
+        ensures step { Told (λ contents now_contents.
+            IsAdvance (versions now.now self.old.before) group self.old.flight self.new.flight contents now_contents) (R.contents regs.old) (R.contents regs.new) }
     {
         let Some(place) = place_of(&self.waiting, group) else {
             unreachable!()

@@ -1,5 +1,6 @@
 use Rattle.std.proofs.Common.{◌≡◌, ◌≢◌, ◌<◌, ◌+◌, ◌^◌, ℕ, List, map, length, sym, ap, ◌∙◌, subst, arith, rules}
-use Rattle.pipe_flight.proofs.MoveLemmas.{IsInOrder, drain_kept, sees, seen_group, seen_below, seen_removed, seen_set, seen_moves, after_removed, after_set, found_in, nobody_found}
+use Rattle.pipe_flight.proofs.MoveLemmas.{advance_is, IsInOrder, drain_kept, sees, seen_group, seen_below, seen_removed, seen_set, seen_moves, after_removed, after_set}
+use Rattle.pipe_flight.proofs.QueueLemmas.{found_in, nobody_found}
 use Rattle.addr_translate.specs.Geometry.{Geometry}
 use Rattle.pipe_flight.specs.States.{group_count}
 use Rattle.pipe_flight.proofs.flights.Flight.advance.Goals as goal
@@ -93,3 +94,15 @@ returns-else-one-groups-clause-drain g c =
     (r.contents c.args.regs.now) (r.contents c.group_step.new.regs) (r.calls c.args.regs.now) (r.calls c.group_step.new.regs) s c.rules_of-rules.ensures
     (after_set (group_count now) p.waiting.items at one c.group_step.new.outs s.there (λ e. c.if-one-groups.false (e ∙ sym (c.group_count-groups.ensures.value ∙ ap (λ (s : Geometry). length s.groups) c.shape.ensures.value))))
     c.group_step.ensures.makes)
+
+pub returns-then-one-groups-clause-step : goal.returns-then-one-groups-clause-step
+returns-then-one-groups-clause-step g c =
+    let r = g.R.RegFile in
+    advance_is c.args.self.now.before c.args.now.now c.args.group c.args.self.now.flight _ (r.contents c.args.regs.now) (r.contents c.group_step.new.regs) (r.calls c.args.regs.now) (r.calls c.group_step.new.regs) c.requires.same
+      (subst IsInOrder c.self.view_is c.self.invariant.in_order) (returns-then-one-groups-clause-moves g c)
+
+pub returns-else-one-groups-clause-step : goal.returns-else-one-groups-clause-step
+returns-else-one-groups-clause-step g c =
+    let r = g.R.RegFile in
+    advance_is c.args.self.now.before c.args.now.now c.args.group c.args.self.now.flight _ (r.contents c.args.regs.now) (r.contents c.group_step.new.regs) (r.calls c.args.regs.now) (r.calls c.group_step.new.regs) c.requires.same
+      (subst IsInOrder c.self.view_is c.self.invariant.in_order) (returns-else-one-groups-clause-moves g c)

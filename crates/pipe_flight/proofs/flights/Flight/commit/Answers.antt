@@ -1,6 +1,7 @@
 use Rattle.std.proofs.Common.{◌≡◌, map, ap, sym, ◌∙◌, subst}
 use Rattle.pipe_flight.specs.Flights.{kept_now}
-use Rattle.pipe_flight.proofs.MoveLemmas.{IsInOrder, drain_committed}
+use Rattle.pipe_flight.proofs.MoveLemmas.{IsInOrder}
+use Rattle.pipe_flight.proofs.QueueLemmas.{drain_committed}
 use Rattle.pipe_flight.proofs.flights.Flight.commit.Goals as goal
 
 pub returns-clause-drain : goal.returns-clause-drain

@@ -1,7 +1,7 @@
 use Rattle.std.proofs.Common.{◌≡◌, ◌<◌, ◌≤◌, ℕ, sym, ap, ◌∙◌, subst, arith}
 use Rattle.pipe_flight.specs.Orders.{IsFlight}
 use Rattle.pipe_flight.specs.States.{FlightState, group_count}
-use Rattle.pipe_flight.proofs.MoveLemmas.{entered, ok_not_err, ok_if_not_err, pushed_is}
+use Rattle.pipe_flight.proofs.QueueLemmas.{entered, ok_not_err, ok_if_not_err, pushed_is}
 use Rattle.pipe_flight.proofs.flights.Flight.enter.Goals as goal
 
 pub unreachable-requires : goal.unreachable-requires

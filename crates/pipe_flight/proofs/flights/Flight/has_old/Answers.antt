@@ -3,7 +3,7 @@ use Rattle.std.specs.List.{list_any}
 use Rattle.pipe_flight.specs.Orders.{is_old}
 use Rattle.pipe_flight.specs.States.{FlightState, flying}
 use Rattle.pipe_flight.specs.declared.waiting.Waiting.{Waiting}
-use Rattle.pipe_flight.proofs.MoveLemmas.{old_none}
+use Rattle.pipe_flight.proofs.QueueLemmas.{old_none}
 use Rattle.pipe_flight.proofs.flights.Flight.has_old.Goals as goal
 
 pub returns-clause-none : goal.returns-clause-none

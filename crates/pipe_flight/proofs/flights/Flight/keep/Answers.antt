@@ -3,7 +3,8 @@ use Rattle.pipe_core.specs.Rules.{Rules}
 use Rattle.pipe_flight.specs.Flights.{kept_now}
 use Rattle.pipe_flight.specs.Orders.{IsFlight}
 use Rattle.pipe_flight.specs.States.{FlightState, flying, group_count, kept_waiting}
-use Rattle.pipe_flight.proofs.MoveLemmas.{count_same, kept_is, kept_under, flight_kept}
+use Rattle.pipe_flight.proofs.MoveLemmas.{count_same}
+use Rattle.pipe_flight.proofs.QueueLemmas.{kept_is, kept_under, flight_kept}
 use Rattle.pipe_flight.proofs.KeepLemmas.{whole_again}
 use Rattle.pipe_flight.proofs.flights.Flight.keep.Goals as goal
 

@@ -1,7 +1,7 @@
 use Rattle.std.proofs.Common.{◌≡◌, ◌<◌, length, ap, arith}
 use Rattle.std.proofs.lemmas.List.{length-map}
 use Rattle.pipe_flight.specs.States.{FlightState, flying, group_count}
-use Rattle.pipe_flight.proofs.MoveLemmas.{first_gone}
+use Rattle.pipe_flight.proofs.QueueLemmas.{first_gone}
 use Rattle.pipe_flight.proofs.flights.Flight.pass_first.Goals as goal
 
 pub invariant_of-self : goal.invariant_of-self

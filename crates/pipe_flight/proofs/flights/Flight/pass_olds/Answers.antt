@@ -7,7 +7,7 @@ use Rattle.pipe_flight.specs.States.{versions}
 use Rattle.pipe_flight.proofs.DrainLemmas.{drained_append}
 use Rattle.reg_file.specs.Calls.{MakesOver}
 use Rattle.pipe_flight.proofs.PassLemmas.{StillTo, still_then, still_last}
-use Rattle.pipe_flight.proofs.MoveLemmas.{old_head}
+use Rattle.pipe_flight.proofs.QueueLemmas.{old_head}
 use Rattle.pipe_flight.proofs.flights.Flight.pass_olds.Goals as goal
 
 pub olds-preserved : goal.olds-preserved

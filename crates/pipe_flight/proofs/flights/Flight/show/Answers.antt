@@ -5,7 +5,7 @@ use Rattle.pipe_flight.specs.Flights.{Flying, drained}
 use Rattle.pipe_flight.specs.States.{versions}
 use Rattle.reg_file.specs.Calls.{MakesOver}
 use Rattle.pipe_flight.proofs.PassLemmas.{StillTo, still_then}
-use Rattle.pipe_flight.proofs.MoveLemmas.{first_apart}
+use Rattle.pipe_flight.proofs.QueueLemmas.{first_apart}
 use Rattle.pipe_flight.proofs.flights.Flight.show.Goals as goal
 
 pub all-preserved : goal.all-preserved
