@@ -1,16 +1,12 @@
 -- Packets that leave, and rules that change.
-use Rattle.std.proofs.Common.{◌≡◌, ◌≢◌, ℕ, zero, suc, ◌+◌, ◌-◌, ◌<◌, ◌≤◌, Bool, true, false, cond, List, [], ◌∷◌, ◌++◌, length, get_or, refl, ap, ap₂, sym, ◌∙◌, subst, arith, filter, map, ⊎_elim, inl, inr, append_assoc}
-use Rattle.std.specs.Prelude.{◌⊎◌, fold}
+use Rattle.std.proofs.Common.{◌≡◌, ◌-◌, ◌≤◌, true, false, cond, List, [], ◌∷◌, ◌++◌, refl, ap, ap₂, sym, ◌∙◌, arith, map}
 use Rattle.std.specs.List.{All}
-use Rattle.std.proofs.lemmas.List.{append-nil}
-use Rattle.std.proofs.lemmas.List.Elements.{All-nil, All-cons, All-head, All-tail}
-use Rattle.reg_file.specs.declared.traits.Call.{Call}
+use Rattle.std.proofs.lemmas.List.Elements.{All-head, All-tail}
 use Rattle.reg_file.specs.Registers.{Contents}
-use Rattle.reg_file.specs.Calls.{made, all_made, handed, is_on}
+use Rattle.reg_file.specs.Calls.{all_made}
 use Rattle.pipe_core.specs.Flow.{Stages, flow}
 use Rattle.pipe_flight.specs.Flights.{Flying, Versions, stages_of, rest_of, drained, drain, kept_now, committed}
-use Rattle.pipe_flight.proofs.PlaceLemmas.{all_made_same, all_made_off}
-use Rattle.pipe_flight.proofs.DrainLemmas.{drained_append, drain_append, drain_first, Reaches, drained_same, drained_at}
+use Rattle.pipe_flight.proofs.DrainLemmas.{drained_append, drain_first}
 
 -- ---- a packet past the last group
 

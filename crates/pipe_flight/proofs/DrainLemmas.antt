@@ -1,11 +1,8 @@
 -- What the packets in flight leave when all have passed.
-use Rattle.std.proofs.Common.{◌≡◌, ◌≢◌, ℕ, zero, suc, ◌+◌, ◌-◌, ◌<◌, ◌≤◌, Bool, true, false, cond, List, [], ◌∷◌, ◌++◌, length, get_or, refl, ap, ap₂, sym, ◌∙◌, subst, arith, filter, map, ⊎_elim, inl, inr, append_assoc}
-use Rattle.std.specs.Prelude.{◌⊎◌, fold}
+use Rattle.std.proofs.Common.{◌≡◌, ℕ, suc, ◌+◌, ◌-◌, ◌<◌, ◌≤◌, Bool, true, false, cond, List, [], ◌∷◌, ◌++◌, refl, ap, sym, ◌∙◌, arith, filter, append_assoc}
 use Rattle.std.specs.List.{All}
-use Rattle.std.proofs.Math.Path.{fun_ext}
-use Rattle.std.proofs.lemmas.Bool.{cases_eq}
 use Rattle.std.proofs.lemmas.List.{append-nil}
-use Rattle.std.proofs.lemmas.List.Elements.{All-nil, All-cons, All-head, All-tail, All-append, All-weaker, filter-append}
+use Rattle.std.proofs.lemmas.List.Elements.{All-nil, All-head, All-tail, All-append, All-weaker, filter-append}
 use Rattle.std.proofs.lemmas.List.Sums.{fold-append}
 use Rattle.reg_file.specs.declared.traits.Call.{Call}
 use Rattle.reg_file.specs.Registers.{Contents}
@@ -15,7 +12,7 @@ use Rattle.pipe_flight.specs.Flights.{Flying, Versions, entering, stages_of, cal
 use Rattle.pipe_flight.specs.Schedules.{AreAt, AreStaged}
 use Rattle.pipe_flight.specs.States.{flying}
 use Rattle.pipe_flight.proofs.Agreements.{SameAt}
-use Rattle.pipe_flight.proofs.PlaceLemmas.{all_made_same, all_made_off, handed_at, flow_same, flow_at, FromGroup, InGroup, staged_from, groups_commute, same_after, same_before, order_by_array}
+use Rattle.pipe_flight.proofs.PlaceLemmas.{all_made_same, handed_at, flow_same, flow_at, FromGroup, InGroup, staged_from, groups_commute, same_after, same_before, order_by_array}
 
 -- ---- one list of packets and another
 

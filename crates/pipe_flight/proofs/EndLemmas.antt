@@ -1,7 +1,6 @@
 -- Packets that pass to the end, in the trace of the serial run.
-use Rattle.std.proofs.Common.{◌≡◌, ◌≢◌, ℕ, zero, suc, ◌+◌, ◌-◌, ◌<◌, ◌≤◌, Bool, true, false, cond, List, [], ◌∷◌, ◌++◌, refl, ap, ap₂, sym, ◌∙◌, subst, arith, filter, map, eq-eqb, ⊎_elim}
-use Rattle.std.specs.Prelude.{◌==◌, fold}
-use Rattle.std.specs.List.{All}
+use Rattle.std.proofs.Common.{◌≡◌, ◌≢◌, ℕ, zero, suc, ◌+◌, ◌-◌, ◌<◌, ◌≤◌, false, cond, List, [], ◌∷◌, ◌++◌, refl, ap, sym, ◌∙◌, subst, arith, filter, map, eq-eqb, ⊎_elim}
+use Rattle.std.specs.Prelude.{◌==◌}
 use Rattle.std.proofs.lemmas.Bool.{cases_eq}
 use Rattle.std.proofs.lemmas.Bool.Decides.{nat_tests}
 use Rattle.std.proofs.lemmas.List.{append-nil}
@@ -17,7 +16,7 @@ use Rattle.pipe_flight.specs.Schedules.{Fill, filled, Moment, olds_passed, momen
 use Rattle.pipe_flight.specs.Traces.{Item, trace_after}
 use Rattle.pipe_flight.proofs.Agreements.{Agrees, Traced}
 use Rattle.pipe_flight.specs.Schedules.Step.{Change, Show}
-use Rattle.pipe_flight.specs.Traces.Item.{Made, Filled}
+use Rattle.pipe_flight.specs.Traces.Item.{Filled}
 use Rattle.pipe_flight.proofs.DrainLemmas.{BothStaged, advances}
 use Rattle.pipe_flight.proofs.CommitLemmas.{rest_none, first_passes}
 use Rattle.pipe_flight.proofs.OrderLemmas.{falls_move, falls_leave, all_present, old_split}

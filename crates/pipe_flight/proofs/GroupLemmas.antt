@@ -1,21 +1,21 @@
 -- Each step keeps the order of each group.
 use Rattle.std.proofs.Common.{◌≡◌, ◌≢◌, ℕ, zero, suc, ◌+◌, ◌-◌, ◌<◌, ◌≤◌, Bool, true, false, not, cond, List, [], ◌∷◌, ◌++◌, length, get_or, refl, ap, ap₂, sym, ◌∙◌, subst, arith, filter, map, ⊎_elim, inl, inr, append_assoc}
-use Rattle.std.specs.Prelude.{◌⊎◌, ◌==◌, fold, nat_le}
+use Rattle.std.specs.Prelude.{◌⊎◌, ◌==◌, nat_le}
 use Rattle.std.specs.List.{All}
-use Rattle.std.proofs.lemmas.Bool.{cases_eq, false≢true}
+use Rattle.std.proofs.lemmas.Bool.{cases_eq}
 use Rattle.std.proofs.lemmas.Bool.Decides.{nat_tests}
 use Rattle.std.proofs.lemmas.List.{append-nil, map-append, length-append}
-use Rattle.std.proofs.lemmas.List.Elements.{All-nil, All-cons, All-head, All-tail, All-append, All-map}
+use Rattle.std.proofs.lemmas.List.Elements.{All-nil, All-cons, All-head, All-tail, All-map}
 use Rattle.reg_file.specs.declared.traits.Call.{Call}
 use Rattle.reg_file.specs.Registers.{Contents}
-use Rattle.reg_file.specs.Calls.{made, all_made}
+use Rattle.reg_file.specs.Calls.{all_made}
 use Rattle.pipe_core.specs.Flow.{Stages, flow}
 use Rattle.pipe_flight.specs.Flights.{Flying, Versions, entering, stages_of, calls_next, moved_on, rest_of, drained, drain, kept_now, committed}
 use Rattle.pipe_flight.specs.Orders.{if_left, is_old, is_present, Falls}
 use Rattle.pipe_flight.specs.Schedules.{Fill, filled, Moment, calls_of_group, passed_group, moment_after, Serial, AreAt, Avoids}
 use Rattle.pipe_flight.specs.Traces.{Item, trace_after, play, without_last, not_passed}
 use Rattle.pipe_flight.proofs.Agreements.{SameAt, Stands, Agrees, rev, IsOf, AvoidsAll, Follows, Traced}
-use Rattle.pipe_flight.specs.Schedules.Step.{Enter, Advance, Change, Show, Rearrange}
+use Rattle.pipe_flight.specs.Schedules.Step.{Enter, Advance, Change}
 use Rattle.pipe_flight.specs.Traces.Item.{Made, Filled}
 use Rattle.pipe_flight.proofs.PlaceLemmas.{all_made_same, all_made_off, InGroup}
 use Rattle.pipe_flight.proofs.DrainLemmas.{BothStaged, stages_staged, Reaches, rest_same, drained_same}

@@ -1,7 +1,7 @@
 -- All packets become old, one after the other.
-use Rattle.std.proofs.Common.{◌≡◌, ◌+◌, ◌<◌, ◌≤◌, ℕ, length, take, drop, get_or, map, ap, sym, ◌∙◌, ◌++◌, ◌∷◌, [], List, arith}
+use Rattle.std.proofs.Common.{◌≡◌, ◌+◌, ◌<◌, ℕ, length, take, drop, get_or, map, ap, sym, ◌∙◌, ◌++◌, ◌∷◌, [], List, arith}
 use Rattle.std.specs.Prelude.{slice_set}
-use Rattle.std.proofs.lemmas.List.{take_more, take_more_set, take_at, take_all, drop-set-lt, get_or-drop, drop-drop, map-append, length-map}
+use Rattle.std.proofs.lemmas.List.{take_more, take_more_set, take_at, drop-set-lt, get_or-drop, drop-drop, map-append, length-map}
 use Rattle.pipe_flight.specs.declared.waiting.Waiting.{Waiting}
 use Rattle.pipe_flight.specs.States.{kept_waiting}
 

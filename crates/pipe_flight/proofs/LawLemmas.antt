@@ -1,6 +1,5 @@
 -- The laws of a flight, for every schedule.
-use Rattle.std.proofs.Common.{◌≡◌, ℕ, zero, suc, ◌+◌, ◌-◌, ◌<◌, ◌≤◌, Bool, true, false, cond, List, [], ◌∷◌, ◌++◌, length, refl, ap, ap₂, sym, ◌∙◌, subst, arith, filter, eq-eqb, ⊎_elim}
-use Rattle.std.specs.Prelude.{◌==◌, ◌⊎◌}
+use Rattle.std.proofs.Common.{◌≡◌, ℕ, suc, ◌+◌, ◌-◌, ◌<◌, ◌≤◌, Bool, true, false, cond, List, [], ◌∷◌, ◌++◌, length, refl, ap, ap₂, sym, ◌∙◌, subst, arith, filter, eq-eqb, ⊎_elim}
 use Rattle.std.specs.List.{All}
 use Rattle.std.proofs.lemmas.Bool.{cases_eq}
 use Rattle.std.proofs.lemmas.Bool.Decides.{nat_tests}
@@ -8,7 +7,7 @@ use Rattle.std.proofs.lemmas.List.{append-nil, append_assoc}
 use Rattle.std.proofs.lemmas.List.Elements.{All-nil, All-cons, All-head, All-tail, filter-append}
 use Rattle.reg_file.specs.declared.traits.Call.{Call}
 use Rattle.reg_file.specs.Registers.{Contents}
-use Rattle.reg_file.specs.Calls.{is_on, handed, all_made}
+use Rattle.reg_file.specs.Calls.{handed, all_made}
 use Rattle.pipe_core.specs.Flow.{Stages, flow}
 use Rattle.pipe_flight.specs.Flights.{Flying, Versions, stages_of, calls_next, drained, drain}
 use Rattle.pipe_flight.specs.Orders.{Falls}
@@ -140,7 +139,7 @@ packet_calls {P} group_of none count now contents schedule front one back some s
     let a = agree_all group_of none count schedule (first_moment count now contents) (first_serial now contents) refl (agree_first group_of count now contents some staged) meet in
     let lt = falls_here m.rules.count front one back (subst (Falls m.rules.count) split a.flight.falls) in
     item_calls group_of m.rules m.contents (rev back) one (rev front) trace (record { now = a.now_staged; old = a.old_staged }) lt
-      (subst (λ (fs : List (Flying P)). Follows group_of m.rules m.contents fs trace) (backward_is m.flight t.backward front one back t.order split) t.follows)
+    (subst (λ (fs : List (Flying P)). Follows group_of m.rules m.contents fs trace) (backward_is m.flight t.backward front one back t.order split) t.follows)
     ∙ ap (λ n. filter (is_in group_of one.group) (calls_from_last n trace)) (rev_length back)
 
 -- ---- the registers that packets in flight will leave
@@ -169,4 +168,3 @@ fill_drain rules next fill contents flight olds avoids =
     ∙ fill_past fill contents (drained rules contents flight) (drained_at Off rules contents flight reach)
 
 -- ---- the calls of an advance are those of the packet's item on the group
-

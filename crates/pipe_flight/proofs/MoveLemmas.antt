@@ -1,15 +1,13 @@
 -- The packets in flight, as code keeps them.
-use Rattle.std.proofs.Common.{◌≡◌, ◌≢◌, ℕ, zero, suc, ◌+◌, ◌-◌, ◌/◌, ◌<◌, ◌≤◌, Bool, true, false, not, cond, filter, List, [], ◌∷◌, ◌++◌, length, get_or, take, drop, map, refl, ap, ap₂, sym, ◌∙◌, subst, arith, eq-eqb, ⊎_elim}
-use Rattle.std.specs.Prelude.{Result, Ok, Err, IsOk, is_ok, is_err, IsTrue, ◌↔◌, nat_lt, Option, Some, None, ◌==◌, ◌||◌, slice_set}
-use Rattle.std.proofs.lemmas.List.Elements.{All-nil, All-head, All-tail, All-cons}
-use Rattle.std.specs.List.{All, remove, list_any, position, position_or_len}
-use Rattle.std.proofs.lemmas.Bool.{false≢true, cases_lt, eqb-true, ltb-true, ltb-false}
-use Rattle.std.proofs.lemmas.List.Sums.{passes_at_first, fails_before_first}
-use Rattle.std.proofs.lemmas.List.Folds.{list_any_none}
+use Rattle.std.proofs.Common.{◌≡◌, ◌≢◌, ℕ, suc, ◌+◌, ◌<◌, ◌≤◌, Bool, true, false, cond, List, [], ◌∷◌, ◌++◌, length, get_or, take, drop, map, refl, ap, ap₂, sym, ◌∙◌, subst, arith, ⊎_elim}
+use Rattle.std.specs.Prelude.{nat_lt, Option, Some, None, ◌==◌, slice_set}
+use Rattle.std.proofs.lemmas.List.Elements.{All-nil, All-cons}
+use Rattle.std.specs.List.{remove, position, position_or_len}
+use Rattle.std.proofs.lemmas.Bool.{cases_lt, eqb-true, ltb-true}
+use Rattle.std.proofs.lemmas.List.Sums.{passes_at_first}
 use Rattle.addr_translate.specs.Geometry.{Geometry, group_number}
-use Rattle.reg_file.proofs.CallLemmas.{or_false}
 use Rattle.std.proofs.lemmas.Bool.Decides.{nat_tests}
-use Rattle.std.proofs.lemmas.List.{map-append, length-append, take-append-drop, set_split, length-map, length-take-le, get_or_default}
+use Rattle.std.proofs.lemmas.List.{map-append, take-append-drop, set_split}
 use Rattle.std.proofs.Math.Seq.{drop-cons}
 use Rattle.reg_file.specs.declared.traits.Call.{Call}
 use Rattle.reg_file.specs.Registers.{Contents}
@@ -17,19 +15,17 @@ use Rattle.reg_file.specs.Calls.{Makes, all_made}
 use Rattle.pkt_headers.specs.declared.packets.Packet.{Packet}
 use Rattle.cmu_stage.specs.declared.passing.Outs.{Outs}
 use Rattle.pipe_core.specs.Rules.{Rules, SameShape}
-use Rattle.pipe_core.specs.Groups.{group_calls, no_carries}
+use Rattle.pipe_core.specs.Groups.{group_calls}
 use Rattle.pipe_flight.specs.Flights.{Flying, calls_next, moved_on, drain}
 use Rattle.pipe_flight.specs.Orders.{NobodyAt, if_left, Falls, IsFlight}
 use Rattle.pipe_flight.specs.Schedules.{calls_of_group, passed_group, AreStaged}
 use Rattle.pipe_flight.specs.States.{FlightState, flying, state_of, group_count, versions, MovesOn, IsAdvance}
-use Rattle.pipe_flight.proofs.DrainLemmas.{drained_append, drain_append, advance_drain, BothStaged}
+use Rattle.pipe_flight.proofs.DrainLemmas.{advance_drain, BothStaged}
 use Rattle.outside.specs.Told.{Told}
 use Rattle.outside.proofs.ToldLemmas.{told_weaker}
 use Rattle.pipe_flight.proofs.PassLemmas.{staged}
-use Rattle.pipe_flight.proofs.OrderLemmas.{all_present, old_split, falls_enter, old_push, falls_here, falls_above, falls_leave, falls_kept, old_leave, old_kept, left_drained, group_calls_of, group_passed}
+use Rattle.pipe_flight.proofs.OrderLemmas.{falls_here, falls_above, left_drained, group_calls_of, group_passed}
 use Rattle.pipe_flight.proofs.SerialLemmas.{left_flight, nobody_front}
-use Rattle.pipe_flight.proofs.CommitLemmas.{commit_drained}
-use Rattle.reg_file.specs.Calls.{MakesOver}
 use Rattle.pipe_core.specs.Flow.{stages_in}
 use Rattle.pipe_flight.specs.declared.waiting.Waiting.{Waiting}
 

@@ -1,27 +1,25 @@
 -- One packet through groups in order.
-use Rattle.std.proofs.Common.{◌≡◌, ◌≢◌, ℕ, zero, suc, ◌+◌, ◌-◌, ◌*◌, ◌/◌, ◌<◌, ◌≤◌, Bool, true, false, cond, List, [], ◌∷◌, ◌++◌, length, get_or, refl, ap, ap₂, sym, ◌∙◌, subst, arith, append_assoc, ⊎_elim}
+use Rattle.std.proofs.Common.{◌≡◌, ℕ, suc, ◌+◌, ◌<◌, ◌≤◌, List, [], ◌++◌, length, get_or, ap, ap₂, sym, ◌∙◌, arith, append_assoc, ⊎_elim}
 use Rattle.std.proofs.Math.ListN.{get_or-eq_default}
 use Rattle.std.proofs.lemmas.Bool.{cases_lt}
 use Rattle.addr_translate.specs.declared.shapes.GroupShape.{GroupShape}
 use Rattle.addr_translate.specs.Geometry.{no_group, group_number}
 use Rattle.pipe_core.proofs.FirstLemmas.{in_group}
-use Rattle.std.specs.Prelude.{Option, None, Some, fold}
-use Rattle.std.specs.List.{All}
+use Rattle.std.specs.Prelude.{Option}
 use Rattle.std.proofs.lemmas.List.{append-nil}
 use Rattle.std.proofs.lemmas.List.Elements.{All-weaker}
 use Rattle.std.proofs.lemmas.List.Sums.{fold-append}
 use Rattle.reg_file.specs.declared.traits.Call.{Call}
 use Rattle.reg_file.specs.Registers.{Contents}
-use Rattle.outside.specs.Told.{Told, Stays, Grows}
+use Rattle.outside.specs.Told.{Told, Grows}
 use Rattle.outside.proofs.ToldLemmas.{told_then, told_weaker, grows_then, grows_none, stays_same}
 use Rattle.reg_file.specs.Calls.{made, all_made, handed, Makes}
-use Rattle.pkt_headers.specs.declared.packets.Packet.{Packet}
 use Rattle.pipe_core.specs.Rules.{Rules, first_in, cmus_in}
 use Rattle.pipe_core.specs.Groups.{group_calls}
 use Rattle.pipe_core.proofs.GroupLemmas.{IsWithin, group_within}
 use Rattle.pipe_core.specs.Flow.{Stages, flow}
 use Rattle.pipe_flight.specs.Schedules.{AreStaged}
-use Rattle.pipe_flight.proofs.PlaceLemmas.{flow_same, FromGroup, InGroup, staged_from, same_after}
+use Rattle.pipe_flight.proofs.PlaceLemmas.{flow_same, FromGroup, staged_from, same_after}
 use Rattle.pipe_core.specs.Flow.{stages_in}
 use Rattle.reg_file.specs.Calls.{MakesOver}
 

@@ -1,16 +1,15 @@
 -- Each step of a schedule keeps a moment in agreement with the serial run.
-use Rattle.std.proofs.Common.{◌≡◌, ◌≢◌, ℕ, zero, suc, ◌+◌, ◌-◌, ◌<◌, ◌≤◌, Bool, true, false, not, cond, List, [], ◌∷◌, ◌++◌, length, get_or, refl, ap, ap₂, sym, ◌∙◌, subst, arith, filter, map, ⊎_elim, inl, inr, append_assoc}
-use Rattle.std.specs.Prelude.{◌⊎◌, ◌==◌, fold}
+use Rattle.std.proofs.Common.{◌≡◌, ◌≢◌, ℕ, ◌+◌, Bool, true, false, cond, List, [], ◌∷◌, ◌++◌, get_or, refl, ap, ap₂, sym, ◌∙◌, subst, arith, filter, map, append_assoc}
+use Rattle.std.specs.Prelude.{◌==◌}
 use Rattle.std.specs.List.{All}
 use Rattle.std.proofs.Math.Path.{fun_ext}
-use Rattle.std.proofs.lemmas.Bool.{cases_eq, false≢true}
+use Rattle.std.proofs.lemmas.Bool.{false≢true}
 use Rattle.std.proofs.lemmas.Bool.Decides.{nat_tests}
 use Rattle.std.proofs.lemmas.List.{append-nil, map-append}
 use Rattle.std.proofs.lemmas.List.Elements.{All-nil, All-cons, All-head, All-tail, All-map, filter-append}
-use Rattle.std.proofs.lemmas.List.Sums.{fold-append}
 use Rattle.reg_file.specs.declared.traits.Call.{Call}
 use Rattle.reg_file.specs.Registers.{Contents}
-use Rattle.reg_file.specs.Calls.{made, all_made, is_on}
+use Rattle.reg_file.specs.Calls.{all_made, is_on}
 use Rattle.pipe_core.specs.Flow.{Stages, flow}
 use Rattle.pipe_flight.specs.Flights.{Flying, Versions, entering, calls_next, moved_on, drained, drain, kept_now, committed}
 use Rattle.pipe_flight.specs.Orders.{NobodyAt, if_left, is_old, is_present, Falls, OldFirst, IsFlight}

@@ -1,23 +1,20 @@
 -- The order of one group.
-use Rattle.std.proofs.Common.{◌≡◌, ◌≢◌, ℕ, zero, suc, ◌+◌, ◌-◌, ◌<◌, ◌≤◌, Bool, true, false, not, cond, List, [], ◌∷◌, ◌++◌, length, get_or, refl, ap, ap₂, sym, ◌∙◌, subst, arith, filter, map, ⊎_elim, inl, inr, append_assoc}
-use Rattle.std.specs.Prelude.{◌⊎◌, ◌==◌, fold, nat_le}
+use Rattle.std.proofs.Common.{◌≡◌, ℕ, suc, ◌+◌, ◌-◌, ◌<◌, ◌≤◌, false, cond, List, [], ◌∷◌, ◌++◌, length, refl, ap, sym, ◌∙◌, subst, arith, append_assoc}
 use Rattle.std.specs.List.{All}
-use Rattle.std.proofs.lemmas.Bool.{cases_eq, false≢true}
-use Rattle.std.proofs.lemmas.Bool.Decides.{nat_tests}
-use Rattle.std.proofs.lemmas.List.{append-nil, map-append}
+use Rattle.std.proofs.lemmas.List.{append-nil}
 use Rattle.std.proofs.lemmas.List.Elements.{All-nil, All-cons, All-head, All-tail, All-append, All-weaker}
 use Rattle.std.proofs.lemmas.List.Sums.{fold-append}
 use Rattle.reg_file.specs.declared.traits.Call.{Call}
 use Rattle.reg_file.specs.Registers.{Contents}
 use Rattle.reg_file.specs.Calls.{made, all_made, handed}
-use Rattle.pipe_core.specs.Flow.{Stages, flow}
+use Rattle.pipe_core.specs.Flow.{flow}
 use Rattle.pipe_flight.specs.Flights.{Flying, Versions, stages_of, calls_next, moved_on, rest_of, drained, drain}
 use Rattle.pipe_flight.specs.Schedules.{Fill, AreAt}
 use Rattle.pipe_flight.specs.Traces.{Item, play, without_last}
 use Rattle.pipe_flight.proofs.Agreements.{SameAt, rev, IsOf, AvoidsAll, Follows}
 use Rattle.pipe_flight.specs.Traces.Item.{Made, Filled}
 use Rattle.pipe_flight.proofs.PlaceLemmas.{all_made_same, all_made_off, flow_at, FromGroup, InGroup, staged_from, same_after}
-use Rattle.pipe_flight.proofs.DrainLemmas.{advances, advance_drain, BothStaged, stages_staged, reaches_from, Reaches, rest_same, drained_same, drain_append}
+use Rattle.pipe_flight.proofs.DrainLemmas.{advances, advance_drain, BothStaged, stages_staged, reaches_from, Reaches, rest_same, drained_same}
 use Rattle.pipe_flight.proofs.SerialLemmas.{fill_past}
 
 -- ---- lists the other way round

@@ -6,7 +6,7 @@ use Rattle.reg_file.specs.Registers.{Contents}
 use Rattle.reg_file.specs.Calls.{all_made}
 use Rattle.pipe_core.specs.Flow.{Stages, flow}
 use Rattle.pipe_flight.specs.Flights.{Flying, calls_next}
-use Rattle.pipe_flight.specs.Schedules.{Fill, filled, Step, Serial, Moment, AreStaged, moment_after, serial_after, MeetAll, first_moment, first_serial, ran}
+use Rattle.pipe_flight.specs.Schedules.{Fill, filled, Step, Serial, AreStaged, serial_after, MeetAll, first_moment, first_serial, ran}
 use Rattle.pipe_flight.specs.Schedules.Step.{Enter, Advance, Change, Show, Rearrange}
 
 -- the calls of one packet, or a fill
@@ -84,4 +84,4 @@ KeepsPacketCalls P = (group_of : ℕ → ℕ) (none : List ℕ) (count : ℕ) (n
     → 0 < count → AreStaged group_of now → MeetAll group_of none (first_moment count now contents) schedule
     → All IsFlightStep schedule → (ran none (first_moment count now contents) schedule).flight ≡ front ++ one ∷ back
     → calls_next (ran none (first_moment count now contents) schedule).rules one
-      ≡ filter (is_in group_of one.group) (calls_from_last (length back) (traced count none (first_serial now contents) [] schedule))
+    ≡ filter (is_in group_of one.group) (calls_from_last (length back) (traced count none (first_serial now contents) [] schedule))

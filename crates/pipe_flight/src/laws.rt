@@ -23,8 +23,7 @@ pub fn group_order()
 #[tactic(auto, using(crate::proofs::LawLemmas::packet_calls))]
 pub fn packet_calls()
     ensures { KeepsPacketCalls Packet }
-{
-}
+{}
 
 /// A packet that enters comes after all others.
 #[tactic(auto, using(crate::proofs::LawLemmas::enter_drain))]
@@ -42,12 +41,10 @@ pub fn fill_drain()
 #[tactic(auto, using(crate::proofs::PipeLemmas::pipes_staged))]
 pub fn calls_by_group()
     ensures { PipesAreStaged }
-{
-}
+{}
 
 /// The rules of a pipe make no call on a register that no entry names.
 #[tactic(auto, using(crate::proofs::PipeLemmas::unnamed_avoided))]
 pub fn calls_where_named()
     ensures { PipesAvoidUnnamed }
-{
-}
+{}

@@ -1,8 +1,8 @@
-use Rattle.std.proofs.Common.{◌≡◌, ◌-◌, ◌+◌, suc, ℕ, arith, rules, subst, ap, length, ◌∙◌}
+use Rattle.std.proofs.Common.{◌-◌, ◌+◌, arith, rules, ap, length, ◌∙◌}
 use Rattle.pipe_core.specs.Flow.{flow}
 use Rattle.pipe_core.specs.Flow.{stages_in}
 use Rattle.addr_translate.specs.Geometry.{Geometry, group_number}
-use Rattle.pipe_flight.proofs.PassLemmas.{Goes, goes_on, goes_last, staged}
+use Rattle.pipe_flight.proofs.PassLemmas.{goes_on, goes_last, staged}
 use Rattle.pipe_flight.proofs.passing.pass_from.Goals as goal
 use Rattle.pipe_flight.specs.States.{group_count}
 

@@ -1,4 +1,4 @@
-use Rattle.std.proofs.Common.{◌≡◌, ◌<◌, length, arith}
+use Rattle.std.proofs.Common.{◌<◌, length, arith}
 use Rattle.pipe_flight.proofs.KeepLemmas.{front_more, back_more}
 use Rattle.pipe_flight.proofs.waiting.keep_all.Goals as goal
 

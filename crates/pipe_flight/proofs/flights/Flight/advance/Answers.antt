@@ -1,4 +1,4 @@
-use Rattle.std.proofs.Common.{◌≡◌, ◌≢◌, ◌<◌, ◌+◌, ◌^◌, ℕ, List, map, length, sym, ap, ◌∙◌, subst, arith, rules}
+use Rattle.std.proofs.Common.{◌<◌, map, length, sym, ap, ◌∙◌, subst, arith}
 use Rattle.pipe_flight.proofs.MoveLemmas.{advance_is, IsInOrder, drain_kept, sees, seen_group, seen_below, seen_removed, seen_set, seen_moves, after_removed, after_set}
 use Rattle.pipe_flight.proofs.QueueLemmas.{found_in, nobody_found}
 use Rattle.addr_translate.specs.Geometry.{Geometry}
@@ -99,10 +99,10 @@ pub returns-then-one-groups-clause-step : goal.returns-then-one-groups-clause-st
 returns-then-one-groups-clause-step g c =
     let r = g.R.RegFile in
     advance_is c.args.self.now.before c.args.now.now c.args.group c.args.self.now.flight _ (r.contents c.args.regs.now) (r.contents c.group_step.new.regs) (r.calls c.args.regs.now) (r.calls c.group_step.new.regs) c.requires.same
-      (subst IsInOrder c.self.view_is c.self.invariant.in_order) (returns-then-one-groups-clause-moves g c)
+    (subst IsInOrder c.self.view_is c.self.invariant.in_order) (returns-then-one-groups-clause-moves g c)
 
 pub returns-else-one-groups-clause-step : goal.returns-else-one-groups-clause-step
 returns-else-one-groups-clause-step g c =
     let r = g.R.RegFile in
     advance_is c.args.self.now.before c.args.now.now c.args.group c.args.self.now.flight _ (r.contents c.args.regs.now) (r.contents c.group_step.new.regs) (r.calls c.args.regs.now) (r.calls c.group_step.new.regs) c.requires.same
-      (subst IsInOrder c.self.view_is c.self.invariant.in_order) (returns-else-one-groups-clause-moves g c)
+    (subst IsInOrder c.self.view_is c.self.invariant.in_order) (returns-else-one-groups-clause-moves g c)

@@ -1,4 +1,4 @@
-use Rattle.std.proofs.Common.{◌≡◌, map, ap, sym, ◌∙◌, subst}
+use Rattle.std.proofs.Common.{map, ap, ◌∙◌, subst}
 use Rattle.pipe_flight.specs.Flights.{kept_now}
 use Rattle.pipe_flight.proofs.MoveLemmas.{IsInOrder}
 use Rattle.pipe_flight.proofs.QueueLemmas.{drain_committed}

@@ -1,4 +1,4 @@
-use Rattle.std.proofs.Common.{◌≡◌, ◌<◌, ◌≤◌, ℕ, sym, ap, ◌∙◌, subst, arith}
+use Rattle.std.proofs.Common.{◌<◌, sym, ◌∙◌, subst, arith}
 use Rattle.pipe_flight.specs.Orders.{IsFlight}
 use Rattle.pipe_flight.specs.States.{FlightState, group_count}
 use Rattle.pipe_flight.proofs.QueueLemmas.{entered, ok_not_err, ok_if_not_err, pushed_is}

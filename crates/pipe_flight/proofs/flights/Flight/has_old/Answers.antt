@@ -1,4 +1,4 @@
-use Rattle.std.proofs.Common.{◌≡◌, List, take, map, ap, ◌∙◌, false}
+use Rattle.std.proofs.Common.{List, take, map, ap, ◌∙◌}
 use Rattle.std.specs.List.{list_any}
 use Rattle.pipe_flight.specs.Orders.{is_old}
 use Rattle.pipe_flight.specs.States.{FlightState, flying}

@@ -1,4 +1,4 @@
-use Rattle.std.proofs.Common.{◌≡◌, map, ap, sym, ◌∙◌, subst, arith}
+use Rattle.std.proofs.Common.{map, ap, sym, ◌∙◌, subst, arith}
 use Rattle.pipe_core.specs.Rules.{Rules}
 use Rattle.pipe_flight.specs.Flights.{kept_now}
 use Rattle.pipe_flight.specs.Orders.{IsFlight}

@@ -1,4 +1,4 @@
-use Rattle.std.proofs.Common.{◌≡◌, ◌<◌, length, ap, arith}
+use Rattle.std.proofs.Common.{◌<◌, length, ap, arith}
 use Rattle.std.proofs.lemmas.List.{length-map}
 use Rattle.pipe_flight.specs.States.{FlightState, flying, group_count}
 use Rattle.pipe_flight.proofs.QueueLemmas.{first_gone}

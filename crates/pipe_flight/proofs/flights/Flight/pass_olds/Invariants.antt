@@ -1,4 +1,4 @@
-use Rattle.std.proofs.Common.{◌≡◌, List, length, filter}
+use Rattle.std.proofs.Common.{◌≡◌, length, filter}
 use Rattle.pipe_flight.specs.Flights.{drained}
 use Rattle.pipe_flight.specs.Orders.{is_old, is_present}
 use Rattle.pipe_flight.specs.States.{versions}

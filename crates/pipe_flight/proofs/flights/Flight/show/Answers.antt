@@ -1,4 +1,4 @@
-use Rattle.std.proofs.Common.{◌≡◌, List, drop, take, sym, ap, ◌∙◌, subst, rules}
+use Rattle.std.proofs.Common.{List, drop, take, sym, ◌∙◌, subst, rules}
 use Rattle.pkt_headers.specs.declared.packets.Packet.{Packet}
 use Rattle.pipe_core.specs.Rules.{Rules}
 use Rattle.pipe_flight.specs.Flights.{Flying, drained}

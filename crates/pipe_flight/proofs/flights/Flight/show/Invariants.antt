@@ -1,8 +1,6 @@
-use Rattle.std.proofs.Common.{◌≡◌, ◌++◌, List, length}
-use Rattle.reg_file.specs.declared.traits.Call.{Call}
+use Rattle.std.proofs.Common.{◌≡◌, length}
 use Rattle.pipe_flight.specs.Flights.{drained}
 use Rattle.pipe_flight.specs.States.{versions}
-use Rattle.reg_file.specs.Calls.{MakesOver}
 use Rattle.pipe_flight.proofs.PassLemmas.{StillTo}
 use Rattle.pipe_flight.proofs.flights.Flight.show.Given as goal
 

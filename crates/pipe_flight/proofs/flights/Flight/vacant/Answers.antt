@@ -1,4 +1,4 @@
-use Rattle.std.proofs.Common.{◌≡◌, List, not, sym, ap, ◌∙◌, subst}
+use Rattle.std.proofs.Common.{List, not, ap, ◌∙◌, subst}
 use Rattle.std.specs.Prelude.{◌==◌}
 use Rattle.std.specs.List.{list_any}
 use Rattle.pipe_flight.specs.declared.waiting.Waiting.{Waiting}
