@@ -39,7 +39,9 @@ agree_first group_of count now contents some staged = record {
 }
 
 pub serial_order : {P : Type 0} → KeepsSerialOrder P
-serial_order group_of none count now contents schedule some staged meet =
+serial_order group_of run is =
+    let none = run.none in let count = run.count in let now = run.now in let contents = run.contents in let schedule = run.steps in
+    let some = is.some in let staged = is.staged in let meet = is.meets in
     let m = ran none (first_moment count now contents) schedule in
     let s = ran_serial count none (first_serial now contents) schedule in
     let a = agree_all group_of none count schedule (first_moment count now contents) (first_serial now contents) refl (agree_first group_of count now contents some staged) meet in
@@ -79,7 +81,9 @@ traced_end group_of none count now contents schedule some staged meet fine =
     (record { backward = []; order = refl; follows = tt; groups = λ a i lt. refl }) meet fine
 
 pub group_order : {P : Type 0} → KeepsGroupOrder P
-group_order group_of none count now contents schedule some staged meet fine =
+group_order group_of run is fine =
+    let none = run.none in let count = run.count in let now = run.now in let contents = run.contents in let schedule = run.steps in
+    let some = is.some in let staged = is.staged in let meet = is.meets in
     let m = first_moment count now contents in
     let t = traced_end group_of none count now contents schedule some staged meet fine in
     λ a i lt. t.groups a i (subst (λ n. group_of a < n) (sym (count_all none schedule m)) lt)
@@ -131,7 +135,9 @@ backward_is flight backward front one back order split =
     sym (rev_rev backward) ∙ ap rev (sym order ∙ split) ∙ rev_append front (one ∷ back) ∙ append_assoc (rev back) (one ∷ []) (rev front)
 
 pub packet_calls : {P : Type 0} → KeepsPacketCalls P
-packet_calls {P} group_of none count now contents schedule front one back some staged meet fine split =
+packet_calls {P} group_of run front one back is fine split =
+    let none = run.none in let count = run.count in let now = run.now in let contents = run.contents in let schedule = run.steps in
+    let some = is.some in let staged = is.staged in let meet = is.meets in
     let m = ran none (first_moment count now contents) schedule in
     let s = ran_serial count none (first_serial now contents) schedule in
     let trace = traced count none (first_serial now contents) [] schedule in

@@ -207,6 +207,13 @@ drain_kept before now group flight new_flight contents new_contents list new_lis
     ∙ advance_drain (group_number now.geometry) v x m.front m.one m.back (both_staged now before (sym same.geometry)) (falls_here (group_count now) m.front m.one m.back falls) (falls_above (group_count now) m.front m.one m.back falls)
     ∙ ap (drain v x) (sym m.split)) m.makes.told
 
+pub drain_stays : (before now new_before : Rules) (group : ℕ) (flight new_flight : List (Flying Packet)) (contents new_contents : Option Contents) (list new_list : Option (List Call)) → new_before ≡ before → SameShape before now → IsFlight (group_count before) flight
+    → MovesOn (versions now before) group flight new_flight contents new_contents list new_list
+    → Told (λ c d. drain (versions now new_before) d new_flight ≡ drain (versions now before) c flight) contents new_contents
+drain_stays before now new_before group flight new_flight contents new_contents list new_list kept same f m =
+    subst (λ (b : Rules). Told (λ c d. drain (versions now b) d new_flight ≡ drain (versions now before) c flight) contents new_contents) (sym kept)
+    (drain_kept before now group flight new_flight contents new_contents list new_list same f m)
+
 -- ---- an advance, where the registers are told, is the schedule's step
 
 pub advance_is : (before now : Rules) (group : ℕ) (flight new_flight : List (Flying Packet)) (contents new_contents : Option Contents) (list new_list : Option (List Call)) → SameShape before now → IsFlight (group_count before) flight → MovesOn (versions now before) group flight new_flight contents new_contents list new_list

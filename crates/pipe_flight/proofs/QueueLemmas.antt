@@ -172,14 +172,15 @@ found_in p waiting seen found at is f s = sym (ap (position p) s) ∙ sym f ∙ 
 
 -- ---- the drain after a commit
 
-pub drain_committed : (before now : Rules) (flight new_flight : List (Flying Packet)) (contents new_contents : Option Contents) (list new_list : Option (List Call)) → OldFirst (map is_old flight) → new_flight ≡ map kept_now (filter is_present flight)
+pub drain_committed : (before now new_before : Rules) (flight new_flight : List (Flying Packet)) (contents new_contents : Option Contents) (list new_list : Option (List Call)) → new_before ≡ now → OldFirst (map is_old flight) → new_flight ≡ map kept_now (filter is_present flight)
     → MakesOver (λ c. drained (versions now before) c (filter is_old flight)) contents new_contents list new_list
-    → Told (λ c d. drain (versions now now) d new_flight ≡ drain (versions now before) c flight) contents new_contents
-drain_committed before now flight new_flight contents new_contents list new_list order f m =
+    → Told (λ c d. drain (versions now new_before) d new_flight ≡ drain (versions now before) c flight) contents new_contents
+drain_committed before now new_before flight new_flight contents new_contents list new_list old order f m =
     let v = versions now before in
     told_weaker contents new_contents (λ x y p.
     let mid : y ≡ drain v x (filter is_old flight) = p.1 ∙ ap (all_made x) p.0 in
-    ap₂ (drain (versions now now)) mid f
+    ap (λ b. drain (versions now b) y new_flight) old
+    ∙ ap₂ (drain (versions now now)) mid f
     ∙ ap (all_made (drain v x (filter is_old flight))) (commit_drained v (stages_in now) (drain v x (filter is_old flight)) (filter is_present flight) (all_present flight))
     ∙ sym (drain_append v x (filter is_old flight) (filter is_present flight))
     ∙ ap (drain v x) (sym (old_split flight order))) m.told

@@ -36,13 +36,15 @@ pub record Moment (P : Type 0) : Type 0 where
 -- the calls of the packet before the group
 abbrev pub calls_of_group : {P : Type 0} → Versions P → ℕ → List (Flying P) → List Call
 calls_of_group rules group [] = []
-calls_of_group rules group (one ∷ others) = if one.group == group then calls_next rules one else calls_of_group rules group others
+calls_of_group rules group (one ∷ others) =
+    if one.group == group then calls_next rules one else calls_of_group rules group others
 
 -- the packet before the group stands before the next, or has left
 abbrev pub passed_group : {P : Type 0} → Versions P → Contents → ℕ → List (Flying P) → List (Flying P)
 passed_group rules contents group [] = []
 passed_group rules contents group (one ∷ others) =
-    if one.group == group then if_left rules.count (moved_on rules contents one) ++ others else one ∷ passed_group rules contents group others
+    if one.group == group then if_left rules.count (moved_on rules contents one) ++ others
+    else one ∷ passed_group rules contents group others
 
 -- the old packets pass to the end
 abbrev pub olds_passed : {P : Type 0} → Moment P → Moment P
@@ -147,6 +149,27 @@ ran none m schedule = fold (moment_after none) m schedule
 abbrev pub ran_serial : {P : Type 0} → ℕ → List ℕ → Serial P → List (Step P) → Serial P
 ran_serial count none s schedule = fold (serial_after count none) s schedule
 
+-- a whole schedule: the carries of a packet that enters, how many groups there are, the first rules and registers, and
+-- the steps
+pub record Run (P : Type 0) : Type 0 where
+  pub none : List ℕ
+  pub count : ℕ
+  pub now : Stages P
+  pub contents : Contents
+  pub steps : List (Step P)
+
+abbrev pub ended : {P : Type 0} → Run P → Moment P
+ended run = ran run.none (first_moment run.count run.now run.contents) run.steps
+
+abbrev pub ended_serially : {P : Type 0} → Run P → Serial P
+ended_serially run = ran_serial run.count run.none (first_serial run.now run.contents) run.steps
+
+-- each step meets its condition, under rules that make in a group calls on the group's arrays alone
+pub record IsRun {P : Type 0} (group_of : ℕ → ℕ) (run : Run P) : Type 0 where
+  pub some : 0 < run.count
+  pub staged : AreStaged group_of run.now
+  pub meets : MeetAll group_of run.none (first_moment run.count run.now run.contents) run.steps
+
 pub record IsFront {A : Type 0} (front all : List A) : Type 0 where
   pub rest : List A
   pub whole : front ++ rest ≡ all
@@ -160,6 +183,4 @@ pub record SerialOrder {P : Type 0} (m : Moment P) (s : Serial P) : Type 0 where
   pub contents_at_end : m.flight ≡ [] → m.contents ≡ s.contents
 
 abbrev pub KeepsSerialOrder : Type 0 → Type 0
-KeepsSerialOrder P = (group_of : ℕ → ℕ) (none : List ℕ) (count : ℕ) (now : Stages P) (contents : Contents) (schedule : List (Step P))
-    → 0 < count → AreStaged group_of now → MeetAll group_of none (first_moment count now contents) schedule
-    → SerialOrder (ran none (first_moment count now contents) schedule) (ran_serial count none (first_serial now contents) schedule)
+KeepsSerialOrder P = (group_of : ℕ → ℕ) (run : Run P) → IsRun group_of run → SerialOrder (ended run) (ended_serially run)

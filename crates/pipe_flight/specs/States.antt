@@ -6,7 +6,7 @@ use Rattle.reg_file.specs.Calls.{Makes, all_made}
 use Rattle.pkt_headers.specs.declared.packets.Packet.{Packet}
 use Rattle.pipe_core.specs.Rules.{Rules}
 use Rattle.pipe_core.specs.Flow.{stages_in}
-use Rattle.pipe_flight.specs.Flights.{Flying, Versions, calls_next}
+use Rattle.pipe_flight.specs.Flights.{Flying, Versions, drain, calls_next}
 use Rattle.pipe_flight.specs.Orders.{IsFlight, if_left, is_old, is_present}
 use Rattle.pipe_flight.specs.Schedules.{calls_of_group, passed_group}
 use Rattle.pipe_flight.specs.declared.waiting.Waiting.{Waiting}
@@ -35,6 +35,14 @@ pub record IsKept (state : FlightState) (room : ℕ) : Type 0 where
 abbrev pub versions : Rules → Rules → Versions Packet
 versions now before = record { count = group_count now; now = stages_in now; old = stages_in before }
 
+-- the registers after all packets in flight have passed to the end, under these rules of now
+abbrev pub drain_of : FlightState → Rules → Contents → Contents
+drain_of state now contents = drain (versions now state.before) contents state.flight
+
+-- the packet before the group with these carries, before the next
+abbrev pub moved_with : Flying Packet → List ℕ → Flying Packet
+moved_with one outs = record { packet = one.packet; group = one.group + 1; kept = one.kept; outs = outs }
+
 -- the packet before the group makes the calls of the group, and stands before the next or has left
 pub record MovesOn (rules : Versions Packet) (group : ℕ) (flight new_flight : List (Flying Packet)) (contents new_contents : Option Contents) (list new_list : Option (List Call)) : Type 0 where
   pub front : List (Flying Packet)
@@ -43,7 +51,7 @@ pub record MovesOn (rules : Versions Packet) (group : ℕ) (flight new_flight : 
   pub split : flight ≡ front ++ one ∷ back
   pub here : one.group ≡ group
   pub outs : List ℕ
-  pub new_split : new_flight ≡ front ++ (if_left rules.count (record { packet = one.packet; group = one.group + 1; kept = one.kept; outs = outs }) ++ back)
+  pub new_split : new_flight ≡ front ++ (if_left rules.count (moved_with one outs) ++ back)
   pub makes : Makes (calls_next rules one) one.outs outs contents new_contents list new_list
 
 -- that is a step of a schedule

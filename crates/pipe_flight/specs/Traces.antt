@@ -6,7 +6,7 @@ use Rattle.reg_file.specs.Registers.{Contents}
 use Rattle.reg_file.specs.Calls.{all_made}
 use Rattle.pipe_core.specs.Flow.{Stages, flow}
 use Rattle.pipe_flight.specs.Flights.{Flying, calls_next}
-use Rattle.pipe_flight.specs.Schedules.{Fill, filled, Step, Serial, AreStaged, serial_after, MeetAll, first_moment, first_serial, ran}
+use Rattle.pipe_flight.specs.Schedules.{Fill, filled, Step, Serial, serial_after, first_serial, Run, IsRun, ended}
 use Rattle.pipe_flight.specs.Schedules.Step.{Enter, Advance, Change, Show, Rearrange}
 
 -- the calls of one packet, or a fill
@@ -26,6 +26,9 @@ abbrev pub traced : {P : Type 0} → ℕ → List ℕ → Serial P → List Item
 traced count none s trace [] = trace
 traced count none s trace (step ∷ steps) =
     traced count none (serial_after count none s step) (trace_after count none s trace step) steps
+
+abbrev pub trace_of : {P : Type 0} → Run P → List Item
+trace_of run = traced run.count run.none (first_serial run.now run.contents) [] run.steps
 
 -- the registers that items leave
 abbrev pub play : Contents → List Item → Contents
@@ -60,11 +63,8 @@ IsFlightStep Show = Unit {0}
 IsFlightStep (Rearrange next effect) = ⊥
 
 abbrev pub KeepsGroupOrder : Type 0 → Type 0
-KeepsGroupOrder P = (group_of : ℕ → ℕ) (none : List ℕ) (count : ℕ) (now : Stages P) (contents : Contents) (schedule : List (Step P))
-    → 0 < count → AreStaged group_of now → MeetAll group_of none (first_moment count now contents) schedule
-    → All IsFlightStep schedule
-    → GroupsAgree group_of count contents (traced count none (first_serial now contents) [] schedule)
-    (ran none (first_moment count now contents) schedule).contents (ran none (first_moment count now contents) schedule).flight
+KeepsGroupOrder P = (group_of : ℕ → ℕ) (run : Run P) → IsRun group_of run → All IsFlightStep run.steps
+    → GroupsAgree group_of run.count run.contents (trace_of run) (ended run).contents (ended run).flight
 
 -- ---- which calls an advance makes
 
@@ -80,8 +80,6 @@ is_in group_of group call = group_of call.array == group
 
 -- the calls that a packet makes in its group are those of its calls in the serial run that are on the group's arrays
 abbrev pub KeepsPacketCalls : Type 0 → Type 0
-KeepsPacketCalls P = (group_of : ℕ → ℕ) (none : List ℕ) (count : ℕ) (now : Stages P) (contents : Contents) (schedule : List (Step P)) (front : List (Flying P)) (one : Flying P) (back : List (Flying P))
-    → 0 < count → AreStaged group_of now → MeetAll group_of none (first_moment count now contents) schedule
-    → All IsFlightStep schedule → (ran none (first_moment count now contents) schedule).flight ≡ front ++ one ∷ back
-    → calls_next (ran none (first_moment count now contents) schedule).rules one
-    ≡ filter (is_in group_of one.group) (calls_from_last (length back) (traced count none (first_serial now contents) [] schedule))
+KeepsPacketCalls P = (group_of : ℕ → ℕ) (run : Run P) (front : List (Flying P)) (one : Flying P) (back : List (Flying P))
+    → IsRun group_of run → All IsFlightStep run.steps → (ended run).flight ≡ front ++ one ∷ back
+    → calls_next (ended run).rules one ≡ filter (is_in group_of one.group) (calls_from_last (length back) (trace_of run))

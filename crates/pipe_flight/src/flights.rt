@@ -5,9 +5,9 @@ ghost use Rattle.outside.specs.Told.{Told};
 ghost use Rattle.reg_file.specs.Calls.{MakesOver};
 ghost use Rattle.pipe_core.specs.Rules.{SameShape, IsShaped};
 ghost use Rattle.pipe_core.specs.Groups.{no_carries};
-ghost use Rattle.pipe_flight.specs.Flights.{entering, drained, drain, kept_now};
+ghost use Rattle.pipe_flight.specs.Flights.{entering, drained, kept_now};
 ghost use Rattle.pipe_flight.specs.Orders.{NobodyAt, IsFlight, is_old, is_present};
-ghost use Rattle.pipe_flight.specs.States.{group_count, versions, MovesOn, IsAdvance, NoOld};
+ghost use Rattle.pipe_flight.specs.States.{group_count, versions, drain_of, MovesOn, IsAdvance, NoOld};
 
 use crate::passing::pass_from;
 use crate::waiting::{Waiting, any_at, first_old, keep_all, place_of};
@@ -86,13 +86,13 @@ impl Flight {
         ensures faults { R.faults regs.new ≡ R.faults regs.old }
         ensures dims { R.dims regs.new ≡ R.dims regs.old }
         ensures before { self.new.before ≡ self.old.before }
-        ensures drain { Told (λ contents now_contents.
-            drain (versions now.now self.old.before) now_contents self.new.flight
-            ≡ drain (versions now.now self.old.before) contents self.old.flight) (R.contents regs.old) (R.contents regs.new) }
+        ensures drain { Told (λ contents now_contents. drain_of self.new now.now now_contents ≡ drain_of self.old now.now contents)
+            (R.contents regs.old) (R.contents regs.new) }
         ensures moves { MovesOn (versions now.now self.old.before) group self.old.flight self.new.flight
             (R.contents regs.old) (R.contents regs.new) (R.calls regs.old) (R.calls regs.new) }
         ensures step { Told (λ contents now_contents.
-            IsAdvance (versions now.now self.old.before) group self.old.flight self.new.flight contents now_contents) (R.contents regs.old) (R.contents regs.new) }
+            IsAdvance (versions now.now self.old.before) group self.old.flight self.new.flight contents now_contents)
+            (R.contents regs.old) (R.contents regs.new) }
     {
         let Some(place) = place_of(&self.waiting, group) else {
             unreachable!()
@@ -118,9 +118,8 @@ impl Flight {
         ensures dims { R.dims regs.new ≡ R.dims regs.old }
         ensures before { self.new.before ≡ now.now }
         ensures flight { self.new.flight ≡ map kept_now (filter is_present self.old.flight) }
-        ensures drain { Told (λ contents now_contents.
-            drain (versions now.now now.now) now_contents self.new.flight
-            ≡ drain (versions now.now self.old.before) contents self.old.flight) (R.contents regs.old) (R.contents regs.new) }
+        ensures drain { Told (λ contents now_contents. drain_of self.new now.now now_contents ≡ drain_of self.old now.now contents)
+            (R.contents regs.old) (R.contents regs.new) }
         ensures makes { MakesOver (λ contents. drained (versions now.now self.old.before) contents (filter is_old self.old.flight))
             (R.contents regs.old) (R.contents regs.new) (R.calls regs.old) (R.calls regs.new) }
     {
@@ -138,8 +137,8 @@ impl Flight {
         ensures dims { R.dims regs.new ≡ R.dims regs.old }
         ensures before { self.new.before ≡ self.old.before }
         ensures flight { self.new.flight ≡ [] }
-        ensures drain { Told (λ contents now_contents.
-            now_contents ≡ drain (versions now.now self.old.before) contents self.old.flight) (R.contents regs.old) (R.contents regs.new) }
+        ensures drain { Told (λ contents now_contents. now_contents ≡ drain_of self.old now.now contents)
+            (R.contents regs.old) (R.contents regs.new) }
         ensures makes { MakesOver (λ contents. drained (versions now.now self.old.before) contents self.old.flight)
             (R.contents regs.old) (R.contents regs.new) (R.calls regs.old) (R.calls regs.new) }
     {

@@ -1,8 +1,8 @@
 use Rattle.std.proofs.Common.{◌<◌, map, length, sym, ap, ◌∙◌, subst, arith}
-use Rattle.pipe_flight.proofs.MoveLemmas.{advance_is, IsInOrder, drain_kept, sees, seen_group, seen_below, seen_removed, seen_set, seen_moves, after_removed, after_set}
+use Rattle.pipe_flight.proofs.MoveLemmas.{advance_is, IsInOrder, drain_stays, sees, seen_group, seen_below, seen_removed, seen_set, seen_moves, after_removed, after_set}
 use Rattle.pipe_flight.proofs.QueueLemmas.{found_in, nobody_found}
 use Rattle.addr_translate.specs.Geometry.{Geometry}
-use Rattle.pipe_flight.specs.States.{group_count}
+use Rattle.pipe_flight.specs.States.{FlightState, group_count}
 use Rattle.pipe_flight.proofs.flights.Flight.advance.Goals as goal
 
 pub unreachable-requires : goal.unreachable-requires
@@ -75,7 +75,7 @@ returns-then-one-groups-clause-drain g c =
     let p = c.self.inside in let now = c.args.now.now in let one = c.index.result.now in let at = c.in-Some.place in
     let found = found_in _ p.waiting.items c.deref.result.now c.place_of.result at c.in-Some.is c.place_of.ensures c.deref.ensures.value in
     let s = sees p.waiting.items p.before c.args.self.now now c.args.group at one c.self.view_is c.self.invariant.in_order found c.index.ensures c.requires.same c.requires.vacant in
-    drain_kept c.args.self.now.before now c.args.group c.args.self.now.flight _ (r.contents c.args.regs.now) (r.contents c.group_step.new.regs) (r.calls c.args.regs.now) (r.calls c.group_step.new.regs) c.requires.same
+    drain_stays c.args.self.now.before now p.before c.args.group c.args.self.now.flight _ (r.contents c.args.regs.now) (r.contents c.group_step.new.regs) (r.calls c.args.regs.now) (r.calls c.group_step.new.regs) (ap (λ (s : FlightState). s.before) c.self.view_is) c.requires.same
     (subst IsInOrder c.self.view_is c.self.invariant.in_order)
     (seen_moves p.waiting.items p.before c.args.self.now now c.rules_of-rules.result.now c.args.group at one c.group_step.new.outs (map _ c.remove.new.self.items)
     (r.contents c.args.regs.now) (r.contents c.group_step.new.regs) (r.calls c.args.regs.now) (r.calls c.group_step.new.regs) s c.rules_of-rules.ensures
@@ -88,7 +88,7 @@ returns-else-one-groups-clause-drain g c =
     let p = c.self.inside in let now = c.args.now.now in let one = c.index.result.now in let at = c.in-Some.place in
     let found = found_in _ p.waiting.items c.deref.result.now c.place_of.result at c.in-Some.is c.place_of.ensures c.deref.ensures.value in
     let s = sees p.waiting.items p.before c.args.self.now now c.args.group at one c.self.view_is c.self.invariant.in_order found c.index.ensures c.requires.same c.requires.vacant in
-    drain_kept c.args.self.now.before now c.args.group c.args.self.now.flight _ (r.contents c.args.regs.now) (r.contents c.group_step.new.regs) (r.calls c.args.regs.now) (r.calls c.group_step.new.regs) c.requires.same
+    drain_stays c.args.self.now.before now p.before c.args.group c.args.self.now.flight _ (r.contents c.args.regs.now) (r.contents c.group_step.new.regs) (r.calls c.args.regs.now) (r.calls c.group_step.new.regs) (ap (λ (s : FlightState). s.before) c.self.view_is) c.requires.same
     (subst IsInOrder c.self.view_is c.self.invariant.in_order)
     (seen_moves p.waiting.items p.before c.args.self.now now c.rules_of-rules.result.now c.args.group at one c.group_step.new.outs _
     (r.contents c.args.regs.now) (r.contents c.group_step.new.regs) (r.calls c.args.regs.now) (r.calls c.group_step.new.regs) s c.rules_of-rules.ensures
