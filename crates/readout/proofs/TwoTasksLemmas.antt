@@ -1,63 +1,69 @@
 -- A view of two tasks reads registers that there are, and it is fit.
-use Rattle.std.proofs.Common.{◌≡◌, ℕ, zero, suc, ◌+◌, ◌^◌, ◌<◌, ◌≤◌, true, false, cond, is_some, List, [], ◌∷◌, length, map, max, get_or, slice_index_or, Option, None, Some, option_map, unwrap_or, IfSome, refl, subst, sym, arith}
-use Rattle.std.specs.List.{All, fold}
-use Rattle.std.proofs.lemmas.List.Elements.{All-head, All-tail}
+use Rattle.std.proofs.Common.{◌≡◌, ℕ, ◌==◌, if◌then◌else◌, zero, suc, ◌+◌, ◌^◌, ◌<◌, ◌≤◌, true, is_some, [], ◌∷◌, length, slice_index_or, Option, None, Some, option_map, unwrap_or, IfSome, refl, subst, sym, arith}
+use Rattle.std.specs.List.{All}
 use Rattle.std.proofs.lemmas.Bool.{false≢true}
 use Rattle.std.proofs.Math.Pow.{pow_mono}
 use Rattle.addr_translate.specs.Blocks.{Block}
 use Rattle.addr_translate.specs.Geometry.{Geometry, bits_of, equal_geometry, greatest_bits, groups_ended}
 use Rattle.addr_translate.proofs.GeometryLemmas.{bits_within}
 use Rattle.reg_file.specs.Registers.{Dims, InFile}
-use Rattle.group_keys.specs.declared.uses.KeyUse.TheVariants.{Single}
+use Rattle.group_keys.specs.declared.uses.KeyUse.{KeyUse}
+use Rattle.group_keys.specs.declared.uses.KeyUse.TheVariants.{Single, Pair}
 use Rattle.sketch_defs.specs.declared.kinds.Kind.{Kind}
 use Rattle.sketch_defs.specs.declared.kinds.Kind.TheVariants.{Cms, Hll}
 use Rattle.sketch_defs.specs.Tasks.{Sketch}
 use Rattle.readout.specs.declared.views.Placed.{Placed}
 use Rattle.readout.specs.declared.views.Side.{Side}
 use Rattle.readout.specs.declared.views.Side.TheVariants.{Live, Frozen}
-use Rattle.readout.specs.PlacedTasks.{PlacedTask, placed_task_at, place_at, block_of, is_named, live_bits, task_named, HasSide, IsFit, IsPlaced, IsPlacedTask, IsShaped, LiesIn}
+use Rattle.readout.specs.PlacedTasks.{View, task_in, place_in, block_of, live_bits, HasSide, IsFit, IsPlaced, IsPlacedTask, IsShaped, LiesIn}
 use Rattle.readout.proofs.PlacedTaskLemmas.{row_placed}
 
 frozen_inside : (geometry : Geometry) (array : ℕ) (frozen : Option Block) (region : Block) (index : ℕ)
-    → is_some (option_map (λ (block : Block). block.bits) frozen) ≡ true → IfSome frozen (LiesIn geometry array)
+    → is_some frozen ≡ true → IfSome frozen (LiesIn geometry array)
     → index < 2 ^ (unwrap_or frozen region).bits → (unwrap_or frozen region).base + index < 2 ^ bits_of geometry array
 frozen_inside geometry array None region index some lies below = absurd (false≢true some)
 frozen_inside geometry array (Some block) region index some lies below = omega (arith, lies, below)
 
-inside : (geometry : Geometry) (tasks : List PlacedTask) (at row : ℕ) (side : Side) (index : ℕ) → IsFit geometry tasks → at < length tasks
-    → row < length (placed_task_at tasks at).places → HasSide side (placed_task_at tasks at)
-    → index < 2 ^ (block_of side (place_at (placed_task_at tasks at) row)).bits
-    → (block_of side (place_at (placed_task_at tasks at) row)).base + index < 2 ^ bits_of geometry (place_at (placed_task_at tasks at) row).array
-inside geometry tasks at row Live index fit below within has small =
-    let placed = row_placed geometry tasks at row fit below within in omega (arith, placed.region, small)
-inside geometry tasks at row Frozen index fit below within has small =
-    let placed = row_placed geometry tasks at row fit below within in
-    let place = place_at (placed_task_at tasks at) row in
-    frozen_inside geometry place.array place.frozen place.region index (rw (placed.frozen_size) has) placed.frozen_region small
+frozen_there : (one other : Option Block) → option_map (λ (block : Block). block.bits) other ≡ option_map (λ (block : Block). block.bits) one → is_some one ≡ true → is_some other ≡ true
+frozen_there None other same some = absurd (false≢true some)
+frozen_there (Some block) None same some = absurd (cc)
+frozen_there (Some block) (Some other) same some = refl
 
-pub register_exists : (geometry : Geometry) (dims : Dims) (tasks : List PlacedTask) (at row : ℕ) (side : Side) (index : ℕ) → IsFit geometry tasks
-    → IsShaped geometry dims → at < length tasks → row < length (placed_task_at tasks at).places → HasSide side (placed_task_at tasks at)
-    → index < 2 ^ (block_of side (place_at (placed_task_at tasks at) row)).bits
-    → InFile dims (place_at (placed_task_at tasks at) row).array ((block_of side (place_at (placed_task_at tasks at) row)).base + index)
-register_exists geometry dims tasks at row side index fit shaped below within has small =
-    let placed = row_placed geometry tasks at row fit below within in
-    let place = place_at (placed_task_at tasks at) row in
-    let bits : bits_of geometry place.array ≤ dims.bits = omega (arith, bits_within geometry place.array, shaped.bits) in
-    let room : 2 ^ bits_of geometry place.array ≤ 2 ^ dims.bits = pow_mono {i = bits_of geometry place.array} {j = dims.bits} bits in
+inside : (view : View) (at row : ℕ) (side : Side) (index : ℕ) → IsFit view → at < length view.tasks
+    → row < length (task_in view at).places → HasSide side (task_in view at)
+    → index < 2 ^ (block_of side (place_in view at row)).bits
+    → (block_of side (place_in view at row)).base + index < 2 ^ bits_of view.geometry (place_in view at row).array
+inside view at row Live index fit below within has small =
+    let placed = row_placed view at row fit below within in omega (arith, placed.region, small)
+inside view at row Frozen index fit below within has small =
+    let placed = row_placed view at row fit below within in
+    let place = place_in view at row in
+    frozen_inside view.geometry place.array place.frozen place.region index
+    (frozen_there (place_in view at 0).frozen place.frozen placed.frozen_size has) placed.frozen_region small
+
+pub register_exists : (view : View) (dims : Dims) (at row : ℕ) (side : Side) (index : ℕ) → IsFit view
+    → IsShaped view.geometry dims → at < length view.tasks → row < length (task_in view at).places → HasSide side (task_in view at)
+    → index < 2 ^ (block_of side (place_in view at row)).bits
+    → InFile dims (place_in view at row).array ((block_of side (place_in view at row)).base + index)
+register_exists view dims at row side index fit shaped below within has small =
+    let placed = row_placed view at row fit below within in
+    let place = place_in view at row in
+    let bits : bits_of view.geometry place.array ≤ dims.bits = omega (arith, bits_within view.geometry place.array, shaped.bits) in
+    let room : 2 ^ bits_of view.geometry place.array ≤ 2 ^ dims.bits = pow_mono {i = bits_of view.geometry place.array} {j = dims.bits} bits in
     record {
       in_arrays = omega (arith, placed.array, shaped.arrays);
-      in_array = omega (arith, inside geometry tasks at row side index fit below within has small, room);
+      in_array = omega (arith, inside view at row side index fit below within has small, room);
     }
 
-pub register_small : (geometry : Geometry) (tasks : List PlacedTask) (at row : ℕ) (side : Side) (index : ℕ) → greatest_bits geometry ≤ 20 → IsFit geometry tasks
-    → at < length tasks → row < length (placed_task_at tasks at).places → HasSide side (placed_task_at tasks at)
-    → index < 2 ^ (block_of side (place_at (placed_task_at tasks at) row)).bits
-    → (block_of side (place_at (placed_task_at tasks at) row)).base + index < 2 ^ 32
-register_small geometry tasks at row side index few fit below within has small =
-    let place = place_at (placed_task_at tasks at) row in
-    let room : 2 ^ bits_of geometry place.array ≤ 2 ^ 20 =
-    pow_mono {i = bits_of geometry place.array} {j = 20} (omega (arith, bits_within geometry place.array, few)) in
-    omega (arith, inside geometry tasks at row side index fit below within has small, room)
+pub register_small : (view : View) (at row : ℕ) (side : Side) (index : ℕ) → greatest_bits view.geometry ≤ 20 → IsFit view
+    → at < length view.tasks → row < length (task_in view at).places → HasSide side (task_in view at)
+    → index < 2 ^ (block_of side (place_in view at row)).bits
+    → (block_of side (place_in view at row)).base + index < 2 ^ 32
+register_small view at row side index few fit below within has small =
+    let place = place_in view at row in
+    let room : 2 ^ bits_of view.geometry place.array ≤ 2 ^ 20 =
+    pow_mono {i = bits_of view.geometry place.array} {j = 20} (omega (arith, bits_within view.geometry place.array, few)) in
+    omega (arith, inside view at row side index fit below within has small, room)
 
 -- ---- two tasks that fit
 
@@ -65,22 +71,22 @@ abbrev four_arrays : Geometry
 four_arrays = equal_geometry 2 (record { cmus = 2; units = 2; bits = 10 }) 5
 
 -- a row of 4 cells, and its frozen row of 2
-abbrev row_at : ℕ → ℕ → ℕ → Placed
-row_at array base frozen = record {
+abbrev row_at : ℕ → ℕ → KeyUse → ℕ → Placed
+row_at array base keys frozen = record {
   array = array;
   region = record { base = base; bits = 2 };
-  keys = Single 0;
+  keys = keys;
   frozen = Some (record { base = frozen; bits = 1 });
 }
 
 abbrev lone_row : ℕ → Placed
 lone_row bits = record { array = 0; region = record { base = 0; bits = bits }; keys = Single 0; frozen = None }
 
-first_placed : IsPlaced four_arrays 2 (Some 1) (row_at 1 32 8)
+first_placed : IsPlaced four_arrays 2 (Some 1) (row_at 1 32 (Single 0) 8)
 unfolding groups_ended
 first_placed = record { array = omega arith; region = omega arith; bits_are = refl; frozen_region = omega arith; frozen_size = refl }
 
-second_placed : IsPlaced four_arrays 2 (Some 1) (row_at 3 64 16)
+second_placed : IsPlaced four_arrays 2 (Some 1) (row_at 3 64 (Pair 0 1) 16)
 unfolding groups_ended
 second_placed = record { array = omega arith; region = omega arith; bits_are = refl; frozen_region = omega arith; frozen_size = refl }
 
@@ -90,7 +96,7 @@ third_placed bits few =
     let room : 2 ^ bits ≤ 2 ^ 10 = pow_mono {i = bits} {j = 10} (omega arith) in
     record { array = omega arith; region = omega (arith, room); bits_are = refl; frozen_region = tt; frozen_size = refl }
 
-both_placed : (k : ℕ) (d : Placed) → k < 2 → IsPlaced four_arrays 2 (Some 1) (slice_index_or (row_at 1 32 8 ∷ row_at 3 64 16 ∷ []) k d)
+both_placed : (k : ℕ) (d : Placed) → k < 2 → IsPlaced four_arrays 2 (Some 1) (slice_index_or (row_at 1 32 (Single 0) 8 ∷ row_at 3 64 (Pair 0 1) 16 ∷ []) k d)
 both_placed zero d h = first_placed
 both_placed (suc zero) d h = second_placed
 both_placed (suc (suc k)) d h = absurd (omega arith)
@@ -102,7 +108,7 @@ lone_placed bits few (suc k) d h = absurd (omega arith)
 no_ranks : (kind : Kind) (bits : ℕ) → kind ≡ Cms → kind ≡ Hll → 4 ≤ bits
 no_ranks kind bits one other = absurd (cc)
 
-hot_fits : (hot : Sketch) → hot.rows ≡ 2 → hot.size ≡ 4 → hot.kind ≡ Cms → IsPlacedTask four_arrays (record { task = hot; places = row_at 1 32 8 ∷ row_at 3 64 16 ∷ [] })
+hot_fits : (hot : Sketch) → hot.rows ≡ 2 → hot.size ≡ 4 → hot.kind ≡ Cms → IsPlacedTask four_arrays (record { task = hot; places = row_at 1 32 (Single 0) 8 ∷ row_at 3 64 (Pair 0 1) 16 ∷ [] })
 hot_fits hot rows size kind = record { rows = sym rows; places = both_placed; size = size; most = omega arith; ranks = no_ranks hot.kind 2 kind }
 
 other_fits : (other : Sketch) (bits : ℕ) → other.rows ≡ 1 → other.size ≡ 2 ^ bits → bits ≤ 9 → (other.kind ≡ Hll → 4 ≤ bits)
@@ -112,32 +118,34 @@ other_fits other bits rows size few ranks =
 
 two_fit : (hot other : Sketch) (bits : ℕ) → hot.rows ≡ 2 → hot.size ≡ 4 → hot.kind ≡ Cms → other.rows ≡ 1 → other.size ≡ 2 ^ bits → bits ≤ 9
     → (other.kind ≡ Hll → 4 ≤ bits)
-    → IsFit four_arrays ((record { task = hot; places = row_at 1 32 8 ∷ row_at 3 64 16 ∷ [] }) ∷ (record { task = other; places = lone_row bits ∷ [] }) ∷ [])
+    → All (IsPlacedTask four_arrays) ((record { task = hot; places = row_at 1 32 (Single 0) 8 ∷ row_at 3 64 (Pair 0 1) 16 ∷ [] }) ∷ (record { task = other; places = lone_row bits ∷ [] }) ∷ [])
 two_fit hot other bits a b c d e f h zero x inside = hot_fits hot a b c
 two_fit hot other bits a b c d e f h (suc zero) x inside = other_fits other bits d e f h
 two_fit hot other bits a b c d e f h (suc (suc k)) x inside = absurd (omega arith)
 
-pub view_fit : (hot other : Sketch) (bits : ℕ) (first second third : Placed) → first ≡ row_at 1 32 8 → second ≡ row_at 3 64 16 → third ≡ lone_row bits
+pub view_fit : (hot other : Sketch) (bits : ℕ) (first second third : Placed) → first ≡ row_at 1 32 (Single 0) 8 → second ≡ row_at 3 64 (Pair 0 1) 16 → third ≡ lone_row bits
     → hot.rows ≡ 2 → hot.size ≡ 4 → hot.kind ≡ Cms → other.rows ≡ 1 → other.size ≡ 2 ^ bits → bits ≤ 9 → (other.kind ≡ Hll → 4 ≤ bits)
-    → IsFit four_arrays ((record { task = hot; places = first ∷ second ∷ [] }) ∷ (record { task = other; places = third ∷ [] }) ∷ [])
+    → All (IsPlacedTask four_arrays) ((record { task = hot; places = first ∷ second ∷ [] }) ∷ (record { task = other; places = third ∷ [] }) ∷ [])
 view_fit hot other bits first second third p q r a b c d e f h =
-    subst (λ (x : Placed). IsFit four_arrays ((record { task = hot; places = x ∷ second ∷ [] }) ∷ (record { task = other; places = third ∷ [] }) ∷ [])) (sym p)
-    (subst (λ (x : Placed). IsFit four_arrays ((record { task = hot; places = row_at 1 32 8 ∷ x ∷ [] }) ∷ (record { task = other; places = third ∷ [] }) ∷ [])) (sym q)
-    (subst (λ (x : Placed). IsFit four_arrays ((record { task = hot; places = row_at 1 32 8 ∷ row_at 3 64 16 ∷ [] }) ∷ (record { task = other; places = x ∷ [] }) ∷ []))
+    subst (λ (x : Placed). All (IsPlacedTask four_arrays) ((record { task = hot; places = x ∷ second ∷ [] }) ∷ (record { task = other; places = third ∷ [] }) ∷ [])) (sym p)
+    (subst (λ (x : Placed). All (IsPlacedTask four_arrays) ((record { task = hot; places = row_at 1 32 (Single 0) 8 ∷ x ∷ [] }) ∷ (record { task = other; places = third ∷ [] }) ∷ [])) (sym q)
+    (subst (λ (x : Placed). All (IsPlacedTask four_arrays) ((record { task = hot; places = row_at 1 32 (Single 0) 8 ∷ row_at 3 64 (Pair 0 1) 16 ∷ [] }) ∷ (record { task = other; places = x ∷ [] }) ∷ []))
     (sym r) (two_fit hot other bits a b c d e f h)))
 
-pub view_room : (hot other : Sketch) (bits : ℕ) (first second third : Placed) → first ≡ row_at 1 32 8 → third ≡ lone_row bits → bits ≤ 9
+pub view_room : (hot other : Sketch) (bits : ℕ) (first second third : Placed) → first ≡ row_at 1 32 (Single 0) 8 → third ≡ lone_row bits → bits ≤ 9
     → All (λ placed. live_bits placed ≤ 9) ((record { task = hot; places = first ∷ second ∷ [] }) ∷ (record { task = other; places = third ∷ [] }) ∷ [])
 view_room hot other bits first second third p r few zero x inside = rw p (omega arith)
 view_room hot other bits first second third p r few (suc zero) x inside = rw r few
 view_room hot other bits first second third p r few (suc (suc k)) x inside = absurd (omega arith)
 
--- a task that is found has room where all have
-pub found_room : (name : List ℕ) (tasks : List PlacedTask) (most : ℕ) → All (λ placed. live_bits placed ≤ most) tasks
-    → IfSome (task_named name tasks) (λ placed. live_bits placed ≤ most)
-found_room name [] most room = tt
-found_room name (placed ∷ tasks) most room =
-    elim (is_named name placed) as (λ b. IfSome (cond b (Some placed) (task_named name tasks)) (λ placed. live_bits placed ≤ most)) [
-      | true ↦ All-head (λ placed. live_bits placed ≤ most) placed tasks room
-      | false ↦ found_room name tasks most (All-tail (λ placed. live_bits placed ≤ most) placed tasks room)
-    ]
+-- ---- what the view shows
+
+abbrev pub seen_of : Sketch → Sketch → Placed → Placed → Placed → View
+seen_of hot other first second third = record {
+  geometry = four_arrays;
+  tasks = (record { task = hot; places = first ∷ second ∷ [] }) ∷ (record { task = other; places = third ∷ [] }) ∷ [];
+  mask = λ group unit. if unit == 0 then Some hot.key else None;
+  free = λ array. 7;
+  largest = λ array. 4;
+  rows = λ array. 1;
+}
