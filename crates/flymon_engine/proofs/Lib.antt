@@ -1,13 +1,4 @@
-pub mod CarryLemmas
-pub mod EndLemmas
-pub mod FaultLemmas
-pub mod FrameLemmas
-pub mod LiveLemmas
-pub mod OpenedLemmas
-pub mod OpeningLemmas
-pub mod PassLemmas
-pub mod ReportLemmas
-pub mod ScriptValues
+pub mod WorldLemmas
+pub mod TakeLemmas
 pub mod StepLemmas
-pub mod ReadingOutLemmas
-pub mod ViewLemmas
+pub mod ArrivalLemmas

@@ -1,21 +1,10 @@
 //! A run of `flymon`: from the words of its command line to the bytes that it writes.
 #![tactic(auto)]
 
+mod captures;
 mod carry;
-mod frames;
 mod lines;
-mod live;
-mod opening;
-mod operation_of_entry;
-mod reading_out;
-mod report;
-mod session;
-mod status;
+mod machine;
+mod setup;
 mod stop;
-mod task;
-mod top;
-mod view;
-mod words;
-
-pub use status::Status;
-pub use top::run;
+mod work;
