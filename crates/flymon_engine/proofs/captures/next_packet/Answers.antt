@@ -22,4 +22,4 @@ returns-in-Ok-None-clause-next g c =
 pub returns-in-Err-clause-next : goal.returns-in-Err-clause-next
 returns-in-Err-clause-next g c =
     let f = g.F.Files in
-    told_fault c.args.capture.now _ c.in-Err.fault (f.slots c.args.files.now).capture (f.slots c.next.new.files).capture c.in-Err.ensures.slot
+    told_fault c.args.capture.now c.next.follows.lender-at-none c.in-Err.fault (f.slots c.args.files.now).capture (f.slots c.next.new.files).capture c.in-Err.ensures.slot
