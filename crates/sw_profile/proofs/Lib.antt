@@ -1,0 +1,4 @@
+mod GroupLemmas
+mod LawLemmas
+mod Texts
+mod Values
