@@ -2,3 +2,6 @@ pub mod WorldLemmas
 pub mod TakeLemmas
 pub mod StepLemmas
 pub mod ArrivalLemmas
+pub mod FileLemmas
+pub mod EndLemmas
+pub mod GoLemmas

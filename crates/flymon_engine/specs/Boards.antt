@@ -3,7 +3,7 @@ use Rattle.std.specs.Prelude.{List, [], ℕ}
 use Rattle.reg_file.specs.declared.traits.Call.{Call}
 use Rattle.pkt_headers.specs.declared.packets.Packet.{Packet}
 use Rattle.switch_model.specs.Records.{Record}
-use Rattle.flymon_engine.specs.declared.setup.Profile.{Profile}
+use Rattle.sw_profile.specs.declared.profiles.Profile.{Profile}
 use Rattle.flymon_engine.specs.declared.work.Change.{Change}
 use Rattle.flymon_engine.specs.declared.work.Question.{Question}
 

@@ -1,10 +1,14 @@
 pub mod Words
 pub mod Works
 pub mod Arrivals
+pub mod Captures
 pub mod Boards
 pub mod Moves
 pub mod Runs
 pub mod Causes
 pub mod Stops
 pub mod Worlds
-pub mod Captures
+pub mod Going
+pub mod Opening
+pub mod Messages
+pub mod Endings

@@ -35,6 +35,7 @@ pub(crate) fn carry_all<F: Files, M: Machine, R: RegFile, O: Sink>(
     requires attached { (slot_at (F.slots files.old) 2).attached ≡ true }
     requires ready { IsReady capture.old (slot_at (F.slots files.old) 2) }
     requires fits { M.fits machine.old (R.dims regs.old) }
+    ensures attached { (slot_at (F.slots files.new) 2).attached ≡ true }
     ensures fits { M.fits machine.new (R.dims regs.new) }
     ensures dims { R.dims regs.new ≡ R.dims regs.old }
     ensures strays { F.strays files.new ≡ F.strays files.old }

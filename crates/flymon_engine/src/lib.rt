@@ -5,6 +5,12 @@ mod captures;
 mod carry;
 mod lines;
 mod machine;
-mod setup;
+mod opening;
+mod report;
+mod status;
 mod stop;
+mod top;
+mod words;
 mod work;
+
+pub use status::Status;

@@ -6,7 +6,7 @@ ghost use Rattle.reg_file.specs.Registers.{Dims, Contents};
 ghost use Rattle.flymon_engine.specs.Boards.{Board, Rules, no_tasks};
 ghost use Rattle.flymon_engine.specs.Moves.{dims_of, WasTold, Moves, Changes, Answers, NoCalls};
 
-use crate::setup::Profile;
+use sw_profile::Profile;
 use crate::work::{Change, Question};
 use fm_io::Sink;
 use key_mask::Line;
