@@ -17,6 +17,7 @@ use Rattle.task_lang.specs.declared.commands.LineFault.TheVariants.{TooLong}
 use Rattle.task_lang.specs.Script.{script_in}
 use Rattle.outside.specs.Faults.{Rose}
 use Rattle.std.specs.Result.{IsErr}
+use Rattle.fm_io.specs.declared.traits.Failed.{Failed}
 use Rattle.fm_io.specs.Slots.{OthersStay}
 use Rattle.fm_io.specs.Names.{CountsStray}
 use Rattle.capture_read.specs.declared.records.Order.{Order}
@@ -198,7 +199,7 @@ header_stops (BigRecord offset size) profile script capture d0 d1 a s1 attached 
     (valid, at_fault (BigRecord offset size) capture d0 d1 a s1.capture attached begins directory slot (λ x y r. r.answers) there)
 
 pub header_cause : (fault : CaptureFault) (before mid now last0 last : ℕ) → before ≤ mid → (fault ≡ Read → Rose mid now)
-    → last ≡ last_begun {T = Unit {0}} last0 (Err (Fault fault)) → HasInputCause before now last (header_refusal fault)
+    → last ≡ last_begun {T = Reading} last0 (Err (Fault fault)) → HasInputCause before now last (header_refusal fault)
 header_cause Read before mid now last0 last later rose e = (let r : Rose mid now = rose refl in omega (arith, r), e)
 header_cause ShortHeader before mid now last0 last later rose e = tt
 header_cause BadMagic before mid now last0 last later rose e = tt
@@ -207,15 +208,15 @@ header_cause (ShortRecord offset) before mid now last0 last later rose e = tt
 header_cause (BigRecord offset size) before mid now last0 last later rose e = tt
 
 -- a name that is attached is there, and no stray was counted
-pub attached_there : {T E : Type 0} (name : List ℕ) (d0 d1 : Directory) (x : T) (before now : ℕ) → DirectoryStays d0 d1 → CountsStray {T = T} {E = E} d0.names name (Ok x) before now
+pub attached_there : {T : Type 0} (name : List ℕ) (d0 d1 : Directory) (x : T) (before now : ℕ) → DirectoryStays d0 d1 → CountsStray {T = T} {E = Failed} d0.names name (Ok x) before now
     → IsThere name d1 × StraysStay d1 before now
-attached_there {T} {E} name d0 d1 x before now directory counts = by d0.names d1.names directory.names counts
+attached_there {T} name d0 d1 x before now directory counts = by d0.names d1.names directory.names counts
   where
-    one : (there : List (List ℕ)) (test : Bool) → list_any (bytes_eq name) there ≡ test → MatchBool test (now ≡ before) (IsErr {T = T} {E = E} (Ok x) × Rose before now)
+    one : (there : List (List ℕ)) (test : Bool) → list_any (bytes_eq name) there ≡ test → MatchBool test (now ≡ before) (IsErr {T = T} {E = Failed} (Ok x) × Rose before now)
         → (list_any (bytes_eq name) there ≡ true) × (now ≡ before)
     one there true e h = (e, h)
-    one there false e h = absurd (h.0)
-    by : (x0 x1 : Option (List (List ℕ))) → Stays x0 x1 → CountsStray {T = T} {E = E} x0 name (Ok x) before now
+    one there false e h = absurd (let bad = h.0 in cc)
+    by : (x0 x1 : Option (List (List ℕ))) → Stays x0 x1 → CountsStray {T = T} {E = Failed} x0 name (Ok x) before now
         → IfSome x1 (λ there. list_any (bytes_eq name) there ≡ true) × IfSome x1 (λ there. now ≡ before)
     by x0 None same h = (tt, tt)
     by None (Some y) same h = absurd same
