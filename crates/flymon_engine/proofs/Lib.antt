@@ -5,3 +5,4 @@ pub mod ArrivalLemmas
 pub mod FileLemmas
 pub mod EndLemmas
 pub mod GoLemmas
+pub mod ClauseLemmas

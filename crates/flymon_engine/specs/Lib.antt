@@ -12,3 +12,4 @@ pub mod Going
 pub mod Opening
 pub mod Messages
 pub mod Endings
+pub mod Clauses

@@ -1,7 +1,13 @@
 //! The top call: all that the program does.
-ghost use Rattle.std.specs.Prelude.{◌≡◌};
-ghost use Rattle.flymon_engine.specs.Words.{Replay, form_of, texts_of};
+ghost use Rattle.std.specs.Prelude.{◌≡◌, ◌↔◌, true, false, None};
+ghost use Rattle.outside.specs.Faults.{Rose};
+ghost use Rattle.outside.specs.Told.{Stays};
+ghost use Rattle.fm_io.specs.Slots.{SlotStays};
+ghost use Rattle.flymon_engine.specs.Words.{Wrong, Replay, form_of, texts_of};
+ghost use Rattle.flymon_engine.specs.Moves.{NoCalls};
+ghost use Rattle.flymon_engine.specs.Opening.{is_standard, StraysStay};
 ghost use Rattle.flymon_engine.specs.Endings.{Seen, Promises, Ran};
+ghost use Rattle.flymon_engine.specs.Clauses.{names_profile, HasBadProfile, HasBadScript, IsDamaged, GoesAll, FailsInPlace, HasShaped, FailsDevice, IsEarly, FailsByName, SendsItsMessage};
 
 use crate::carry::carry_all;
 use crate::machine::{Machine, StartFail};
@@ -29,6 +35,46 @@ pub(crate) fn run_on<F: Files, M: Machine, R: RegFile, O: Sink, E: Sink>(
         let after : Seen = record { files = F.faults files.new; last = F.last files.new; strays = F.strays files.new; directory = F.directory files.new; slots = F.slots files.new;
             regs = R.faults regs.new; dims = R.dims regs.new; cells = R.contents regs.new; calls = R.calls regs.new; out = O.faults out.new; sent = O.sent out.new } in
         Ran M.rules M.lays (form_of (texts_of words.now)) result before after (E.faults err.old) (E.faults err.new) (E.sent err.old) (E.sent err.new) }
+
+    // what the words and texts determine
+    ensures usage { (result ≡ Status.Usage) ↔ (form_of (texts_of words.now) ≡ Wrong) }
+    ensures bad_profile { result ≡ Status.BadProfile → HasBadProfile (form_of (texts_of words.now)) (F.directory files.new) (F.slots files.new) }
+    ensures bad_script { result ≡ Status.BadScript → HasBadScript (form_of (texts_of words.now)) (F.directory files.new) (F.slots files.new) }
+    ensures bad_capture {
+        let before : Seen = record { files = F.faults files.old; last = F.last files.old; strays = F.strays files.old; directory = F.directory files.old; slots = F.slots files.old;
+            regs = R.faults regs.old; dims = R.dims regs.old; cells = R.contents regs.old; calls = R.calls regs.old; out = O.faults out.old; sent = O.sent out.old } in
+        let after : Seen = record { files = F.faults files.new; last = F.last files.new; strays = F.strays files.new; directory = F.directory files.new; slots = F.slots files.new;
+            regs = R.faults regs.new; dims = R.dims regs.new; cells = R.contents regs.new; calls = R.calls regs.new; out = O.faults out.new; sent = O.sent out.new } in
+        result ≡ Status.BadCapture → IsDamaged M.rules M.lays (form_of (texts_of words.now)) before after }
+    ensures done {
+        let before : Seen = record { files = F.faults files.old; last = F.last files.old; strays = F.strays files.old; directory = F.directory files.old; slots = F.slots files.old;
+            regs = R.faults regs.old; dims = R.dims regs.old; cells = R.contents regs.old; calls = R.calls regs.old; out = O.faults out.old; sent = O.sent out.old } in
+        let after : Seen = record { files = F.faults files.new; last = F.last files.new; strays = F.strays files.new; directory = F.directory files.new; slots = F.slots files.new;
+            regs = R.faults regs.new; dims = R.dims regs.new; cells = R.contents regs.new; calls = R.calls regs.new; out = O.faults out.new; sent = O.sent out.new } in
+        result ≡ Status.Done → GoesAll M.rules M.lays (form_of (texts_of words.now)) None before after }
+
+    // each fault has its cause and its place
+    ensures input { result ≡ Status.InputFault → Rose (F.faults files.old) (F.faults files.new)
+        × FailsInPlace (form_of (texts_of words.now)) (F.directory files.new) (F.slots files.new) (F.last files.new) }
+    ensures output {
+        let before : Seen = record { files = F.faults files.old; last = F.last files.old; strays = F.strays files.old; directory = F.directory files.old; slots = F.slots files.old;
+            regs = R.faults regs.old; dims = R.dims regs.old; cells = R.contents regs.old; calls = R.calls regs.old; out = O.faults out.old; sent = O.sent out.old } in
+        let after : Seen = record { files = F.faults files.new; last = F.last files.new; strays = F.strays files.new; directory = F.directory files.new; slots = F.slots files.new;
+            regs = R.faults regs.new; dims = R.dims regs.new; cells = R.contents regs.new; calls = R.calls regs.new; out = O.faults out.new; sent = O.sent out.new } in
+        result ≡ Status.OutputFault → Rose (O.faults out.old) (O.faults out.new) × HasShaped (form_of (texts_of words.now)) after }
+    ensures device {
+        let before : Seen = record { files = F.faults files.old; last = F.last files.old; strays = F.strays files.old; directory = F.directory files.old; slots = F.slots files.old;
+            regs = R.faults regs.old; dims = R.dims regs.old; cells = R.contents regs.old; calls = R.calls regs.old; out = O.faults out.old; sent = O.sent out.old } in
+        let after : Seen = record { files = F.faults files.new; last = F.last files.new; strays = F.strays files.new; directory = F.directory files.new; slots = F.slots files.new;
+            regs = R.faults regs.new; dims = R.dims regs.new; cells = R.contents regs.new; calls = R.calls regs.new; out = O.faults out.new; sent = O.sent out.new } in
+        result ≡ Status.DeviceFault → Rose (R.faults regs.old) (R.faults regs.new) × FailsDevice (form_of (texts_of words.now)) after }
+    ensures nothing { IsEarly result → Stays (O.sent out.old) (O.sent out.new) × NoCalls (R.calls regs.old) (R.calls regs.new) }
+
+    // which files were attached
+    ensures standard { names_profile (form_of (texts_of words.now)) ≡ false → SlotStays (F.slots files.old).profile (F.slots files.new).profile }
+    ensures names { (result ≡ Status.InputFault → ⊥) → StraysStay (F.directory files.new) (F.strays files.old) (F.strays files.new) }
+    ensures stray { result ≡ Status.InputFault → FailsByName (form_of (texts_of words.now)) (F.directory files.new) (F.last files.new) (F.strays files.old) (F.strays files.new) }
+    ensures message { SendsItsMessage result (E.faults err.old) (E.faults err.new) (E.sent err.old) (E.sent err.new) }
 {
     let ended = execute::<F, M, R, O>(alloc, words, files, regs, out);
     report(ended, err);
@@ -49,6 +95,7 @@ fn execute<F: Files, M: Machine, R: RegFile, O: Sink>(
         let after : Seen = record { files = F.faults files.new; last = F.last files.new; strays = F.strays files.new; directory = F.directory files.new; slots = F.slots files.new;
             regs = R.faults regs.new; dims = R.dims regs.new; cells = R.contents regs.new; calls = R.calls regs.new; out = O.faults out.new; sent = O.sent out.new } in
         Promises M.rules M.lays (form_of (texts_of words.now)) result before after }
+    ensures standard { names_profile (form_of (texts_of words.now)) ≡ false → SlotStays (F.slots files.old).profile (F.slots files.new).profile }
 {
     match names_of(words) {
         Some(names) => replay::<F, M, R, O>(alloc, names, files, regs, out),
@@ -70,6 +117,7 @@ fn replay<F: Files, M: Machine, R: RegFile, O: Sink>(
         let after : Seen = record { files = F.faults files.new; last = F.last files.new; strays = F.strays files.new; directory = F.directory files.new; slots = F.slots files.new;
             regs = R.faults regs.new; dims = R.dims regs.new; cells = R.contents regs.new; calls = R.calls regs.new; out = O.faults out.new; sent = O.sent out.new } in
         Promises M.rules M.lays (Replay names.entry.profile.now names.entry.script.now names.entry.capture.now) result before after }
+    ensures standard { is_standard names.entry.profile.now ≡ true → SlotStays (F.slots files.old).profile (F.slots files.new).profile }
 {
     let opened = match open_files(alloc, names, files) {
         Ok(opened) => opened,

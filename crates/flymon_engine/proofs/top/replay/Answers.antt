@@ -9,11 +9,12 @@ use Rattle.flymon_engine.specs.Opening.{Opens}
 use Rattle.flymon_engine.specs.Words.{Replay}
 use Rattle.flymon_engine.specs.Endings.{Seen, Promises}
 use Rattle.flymon_engine.proofs.EndLemmas.{carried_on, promises_carried, cause_of_run, err_holds}
+use Rattle.fm_io.proofs.SlotLemmas.{slot_then}
 use Rattle.flymon_engine.proofs.FileLemmas.{opens_later, strays_later}
 use Rattle.flymon_engine.proofs.top.replay.Goals as goal
 
-pub returns : goal.returns
-returns g c = let r = g.R.RegFile in let f = g.F.Files in let m = g.M.Machine in let o = g.O.Sink in
+pub returns-clause-promises : goal.returns-clause-promises
+returns-clause-promises g c = let r = g.R.RegFile in let f = g.F.Files in let m = g.M.Machine in let o = g.O.Sink in
     let before : Seen = record { files = f.faults c.args.files.now; last = f.last c.args.files.now; strays = f.strays c.args.files.now; directory = f.directory c.args.files.now; slots = f.slots c.args.files.now;
         regs = r.faults c.args.regs.now; dims = r.dims c.args.regs.now; cells = r.contents c.args.regs.now; calls = r.calls c.args.regs.now; out = o.faults c.args.out.now; sent = o.sent c.args.out.now } in
     let files = c.carry_all-carried.new.files in let regs = c.finish.new.regs in let out = c.carry_all-carried.new.out in
@@ -31,8 +32,7 @@ returns g c = let r = g.R.RegFile in let f = g.F.Files in let m = g.M.Machine in
         (opens_later names.profile.now names.script.now names.capture.now (f.directory c.open_files.new.files) (f.directory files) (f.slots c.open_files.new.files) (f.slots files)
         opened.profile opened.commands.items c.carry_all-carried.ensures.directory c.carry_all-carried.ensures.others
         (record { attached = attached; cursor = c.carry_all-carried.ensures.cursor }) c.in-Ok.ensures.opens) in
-    record {
-      promises = subst (λ (x : Result (Unit {0}) Stop). Promises m.rules m.lays (Replay names.profile.now names.script.now names.capture.now) x before after) (sym c.ending.ensures)
+    subst (λ (x : Result (Unit {0}) Stop). Promises m.rules m.lays (Replay names.profile.now names.script.now names.capture.now) x before after) (sym c.ending.ensures)
           (promises_carried m.rules m.lays names.profile.now names.script.now names.capture.now before after c.carry_all-carried.result cause (record {
             setup = opened.profile;
             commands = c.deref.result.now;
@@ -45,5 +45,9 @@ returns g c = let r = g.R.RegFile in let f = g.F.Files in let m = g.M.Machine in
                 (r.calls c.start.new.regs) (r.calls c.carry_all-carried.new.regs)
                 c.in-Ok.ensures.begun c.in-Ok-start.ensures.cells c.carry_all-carried.ensures.cursor c.carry_all-carried.ensures.cells c.finish.ensures.told
                 c.carry_all-carried.ensures.run c.finish.ensures.moves c.in-Ok-start.ensures.calls;
-          }));
-    }
+          }))
+
+pub returns-clause-standard : goal.returns-clause-standard
+returns-clause-standard g c = let f = g.F.Files in
+    λ e. slot_then (f.slots c.args.files.now).profile (f.slots c.open_files.new.files).profile (f.slots c.carry_all-carried.new.files).profile (λ x y z p q. q ∙ p)
+    (c.open_files.ensures.standard e) c.carry_all-carried.ensures.others.profile
