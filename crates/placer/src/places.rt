@@ -1,4 +1,5 @@
 //! Places of rows, and why there are none.
+ghost use Rattle.std.specs.Prelude.{◌≡◌, ◌≤◌, length};
 
 use addr_translate::Region;
 use arrayvec::ArrayVec;
@@ -11,6 +12,17 @@ pub struct Place {
     pub array: u32,
     pub keys: KeyUse,
     pub region: Region,
+}
+
+/// What stands in a [`Placement`] behind its last place.
+impl Default for Place {
+    fn default() -> Place {
+        Place {
+            array: 0,
+            keys: KeyUse::Single { unit: 0 },
+            region: Region { base: 0, bits: 0 },
+        }
+    }
 }
 
 /// Why a task has no place: it has `need` rows, and only `have` arrays are open to it, or open with
@@ -28,8 +40,27 @@ pub struct NoRoom {
     pub row: u32,
 }
 
-/// The places of a task's rows, in their order.
+/// The places of a task's rows, in their order. It is seen as their list.
 #[derive(Debug, Drop)]
 pub struct Placement {
     pub places: ArrayVec<Place, 4>,
+}
+
+impl Model for Placement {
+    ghost use Rattle.std.specs.Prelude.{List};
+    ghost use Rattle.placer.specs.declared.places.Place.{Place};
+
+    ghost Value = { List Place };
+
+    ghost view = { λ p. p.places.items };
+}
+
+impl Placement {
+    /// The places, at most 4, the first row's first.
+    pub fn places(&self) -> &[Place]
+        ensures value { result.now ≡ self.now }
+        ensures few { length result.now ≤ 4 }
+    {
+        self.places.as_slice()
+    }
 }

@@ -1,5 +1,5 @@
 -- A change is judged on tasks and places. It is refused, or comes to one edit of the list of tasks.
-use Rattle.std.specs.Prelude.{◌≡◌, ℕ, Bool, zero, suc, ◌+◌, is_some, if◌then◌else◌, List, [], ◌∷◌, ◌++◌, map, position, remove, Option, None, Some, Result, Ok, Err}
+use Rattle.std.specs.Prelude.{ℕ, Bool, zero, suc, ◌+◌, is_some, if◌then◌else◌, List, [], ◌∷◌, ◌++◌, map, position, remove, Option, None, Some, Result, Ok, Err}
 use Rattle.std.specs.List.{slice_get}
 use Rattle.std.specs.Str.{bytes_eq}
 use Rattle.addr_translate.specs.Blocks.{Block}
@@ -11,7 +11,7 @@ use Rattle.placer.specs.Sights.{Sight, units_at, region_for, bits_for}
 use Rattle.placer.specs.Placement.{placed}
 use Rattle.placer.specs.declared.places.Place.{Place}
 use Rattle.placer.specs.declared.places as places
-use Rattle.switch_model.specs.Records.{Past, Part, UnitMask, Row, Record, Outline, outlines}
+use Rattle.switch_model.specs.Records.{Part, UnitMask, Row, Record, Outline, outlines}
 use Rattle.switch_model.specs.Sights.{sight_of}
 
 pub data Change : Type 0 where

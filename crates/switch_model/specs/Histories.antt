@@ -1,10 +1,9 @@
 -- Histories of packets and changes, and what a task has of one: it knows of no other task.
-use Rattle.std.specs.Prelude.{◌≡◌, ℕ, Bool, true, false, if◌then◌else◌, List, [], ◌∷◌, ◌++◌, Option, None, Some, option_map, Result, Ok, Err}
+use Rattle.std.specs.Prelude.{ℕ, Bool, true, false, if◌then◌else◌, List, [], ◌∷◌, ◌++◌, Option, None, Some, option_map, Result, Ok, Err}
 use Rattle.std.specs.List.{find, fold}
 use Rattle.std.specs.Str.{bytes_eq}
 use Rattle.addr_translate.specs.Geometry.{Geometry}
 use Rattle.pkt_headers.specs.declared.packets.Packet.{Packet}
-use Rattle.sketch_defs.specs.Tasks.{Sketch}
 use Rattle.switch_model.specs.Records.{Part, Record, outlines}
 use Rattle.switch_model.specs.Changes.{Change, Add, Resize, Remove, Release, Edit, Refusal, judged, changed, started, resized_part, released_part}
 use Rattle.switch_model.specs.Packets.{joined_part, join}

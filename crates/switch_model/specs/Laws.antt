@@ -1,24 +1,34 @@
 -- What holds of every switch.
-use Rattle.std.specs.Prelude.{◌≡◌, ◌≢◌, ℕ, ◌+◌, ◌^◌, ◌<◌, ◌≤◌, ◌==◌, ◌&&◌, Bool, true, false, nat_le, nat_lt, List, [], ◌∷◌, ◌++◌, map, Result, Ok, Err}
+use Rattle.std.specs.Prelude.{◌≡◌, ◌≢◌, ℕ, ◌+◌, ◌^◌, ◌==◌, ◌&&◌, Bool, true, false, ⊤, None, nat_le, nat_lt, List, [], ◌∷◌, ◌++◌, map, Ok}
 use Rattle.std.specs.List.{All, AllPairs, list_any}
-use Rattle.addr_translate.specs.Blocks.{Block}
 use Rattle.addr_translate.specs.Geometry.{Geometry, IsGeometry}
 use Rattle.pkt_headers.specs.declared.packets.Packet.{Packet}
 use Rattle.reg_file.specs.declared.traits.Call.{Call}
 use Rattle.reg_file.specs.Registers.{Contents}
 use Rattle.reg_file.specs.Calls.{all_made}
-use Rattle.sketch_defs.specs.Tasks.{Sketch}
+use Rattle.sketch_defs.specs.Tasks.{Sketch, first_fault}
 use Rattle.sketch_lower.specs.Operations.{start_of}
-use Rattle.switch_model.specs.Records.{Row, Record, outlines}
+use Rattle.switch_model.specs.Records.{Record, outlines}
 use Rattle.switch_model.specs.Sights.{Holding, live_holding}
 use Rattle.switch_model.specs.Soundness.{Sound}
-use Rattle.switch_model.specs.Changes.{Change, Add, Remove, Edit, Push, Move, Drop, Thaw, judged, edited_records}
+use Rattle.switch_model.specs.Changes.{Change, Add, Resize, Remove, Release, Edit, Push, Move, Drop, Thaw, judged, edited_records}
 use Rattle.switch_model.specs.Packets.{join, calls_of, Layout}
 use Rattle.switch_model.specs.Histories.{Event, Passes, Changes, stepped, after, accepted, part_of, alone}
 
+-- a task that is added is one that there may be
+abbrev pub IsProper : Change → Type 0
+IsProper (Add task) = first_fault task ≡ None
+IsProper (Resize name size) = ⊤
+IsProper (Remove name) = ⊤
+IsProper (Release name) = ⊤
+
+abbrev pub IsPossible : Event → Type 0
+IsPossible (Passes packet) = ⊤
+IsPossible (Changes change) = IsProper change
+
 -- packets and changes keep the tasks sound
 abbrev pub StaysSound : Type 0
-StaysSound = (geometry : Geometry) (records : List Record) (event : Event) → IsGeometry geometry
+StaysSound = (geometry : Geometry) (records : List Record) (event : Event) → IsGeometry geometry → IsPossible event
     → Sound geometry (outlines records) → Sound geometry (outlines (stepped geometry records event))
 
 -- a packet makes at most one operation on each array

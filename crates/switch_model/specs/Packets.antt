@@ -42,8 +42,15 @@ pub record Stand : Type 0 where
 
 abbrev pub live_stand : Part → ℕ → Option ℕ → Row → Stand
 live_stand part i before row = record {
-  live = true; task = part.task; packets = part.packets; row = i;
-  array = row.array; region = row.region; keys = row.keys; before = before }
+  live = true;
+  task = part.task;
+  packets = part.packets;
+  row = i;
+  array = row.array;
+  region = row.region;
+  keys = row.keys;
+  before = before;
+}
 
 abbrev pub live_stands : Part → ℕ → Option ℕ → List Row → List Stand
 live_stands part i before [] = []
@@ -52,8 +59,15 @@ live_stands part i before (row ∷ rows) = live_stand part i before row ∷ live
 abbrev pub frozen_stand : Part → Past → ℕ → Row → Option Block → List Stand
 frozen_stand part past i row None = []
 frozen_stand part past i row (Some region) = record {
-  live = false; task = part.task; packets = past.packets; row = i;
-  array = row.array; region = region; keys = row.keys; before = None } ∷ []
+  live = false;
+  task = part.task;
+  packets = past.packets;
+  row = i;
+  array = row.array;
+  region = region;
+  keys = row.keys;
+  before = None;
+} ∷ []
 
 abbrev pub frozen_stands : Part → Past → ℕ → List Row → List Stand
 frozen_stands part past i [] = []
@@ -94,7 +108,8 @@ call_of hash_key packet s = record {
   array = s.array;
   addr = s.region.base + index_at hash_key s.task s.region.bits s.row packet;
   op = operation_at hash_key s.task s.region.bits s.row packet
-      (bound_at hash_key s.task s.region.bits (cells_at hash_key s) packet s.row) }
+      (bound_at hash_key s.task s.region.bits (cells_at hash_key s) packet s.row);
+}
 
 abbrev pub calls_on : List ℕ → Packet → List Stand → ℕ → List Call
 calls_on hash_key packet stands array = map (call_of hash_key packet) (filter (takes_on packet array) stands)

@@ -1,5 +1,5 @@
 -- The live tasks of a switch: of each a sketch part, which knows nothing of places, and a row for each place.
-use Rattle.std.specs.Prelude.{ℕ, List, Option, None, option_map, map}
+use Rattle.std.specs.Prelude.{ℕ, List, Option, option_map, map}
 use Rattle.addr_translate.specs.Blocks.{Block}
 use Rattle.group_keys.specs.declared.uses.KeyUse.{KeyUse}
 use Rattle.pkt_headers.specs.declared.packets.Packet.{Packet}

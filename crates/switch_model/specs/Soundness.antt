@@ -1,5 +1,5 @@
 -- What holds of the tasks of a switch at all times.
-use Rattle.std.specs.Prelude.{◌≡◌, ◌≢◌, ℕ, ◌<◌, ◌^◌, Bool, true, List, [], ◌∷◌, length, map, Option, None, Some, IfSome, IsSome, IsTrue, option_map}
+use Rattle.std.specs.Prelude.{◌≡◌, ◌≢◌, ℕ, ◌<◌, ◌^◌, true, List, [], ◌∷◌, length, map, None, IfSome, IsSome, IsTrue, option_map}
 use Rattle.std.specs.List.{All, AllPairs}
 use Rattle.addr_translate.specs.Blocks.{Block}
 use Rattle.addr_translate.specs.Geometry.{Geometry, array_count, bits_of, least_bits_of, group_in, group_number}
@@ -9,7 +9,7 @@ use Rattle.group_keys.specs.Units.{units_in, masks_xor_to}
 use Rattle.task_filters.specs.Filters.{are_disjoint}
 use Rattle.sketch_defs.specs.declared.kinds.Kind.{Kind}
 use Rattle.sketch_defs.specs.declared.kinds.Kind.TheVariants.{Cms, SumaxSum, SumaxMax, Bloom, Mrac, Hll, FlagOr, FlagAnd}
-use Rattle.sketch_defs.specs.Tasks.{Sketch, first_fault}
+use Rattle.sketch_defs.specs.Tasks.{first_fault}
 use Rattle.placer.specs.Sights.{bits_for}
 use Rattle.switch_model.specs.Records.{Row, Outline, UnitMask}
 use Rattle.switch_model.specs.Sights.{Holding, Spot, GroupUse, all_held, all_spots, all_uses}
