@@ -55,7 +55,7 @@ passed_text rules run (suc k) = one (passed rules run k) (passed rules run k).le
 done_text : (rules : Rules) (run : Run) (command : Work) → (done_by rules run command).text ≡ run.text
 done_text rules run (Take count) = passed_text rules run (taken_by run (Take count))
 done_text rules run (Change change) = refl
-done_text rules run (Ask question) = refl
+done_text rules run (Ask request) = refl
 
 -- what was sent is a front of all that the script sends
 going_text : (rules : Rules) (run : Run) (commands : List Work) → IsFront run.text (going rules run commands).text
@@ -80,7 +80,7 @@ part_text rules run command commands front unmet cuts = rw unmet (front_then (ru
 spoiled_text : (rules : Rules) (run here : Run) (command : Work) → SpoilsTo rules run command here → (meets run command ≡ false) × (here.text ≡ run.text)
 spoiled_text rules run here (Take count) e = absurd e
 spoiled_text rules run here (Change change) e = (change_unmet run change, ap (λ (r : Run). r.text) e.is)
-spoiled_text rules run here (Ask question) e = (ask_unmet run question, ap (λ (r : Run). r.text) e)
+spoiled_text rules run here (Ask request) e = (ask_unmet run request, ap (λ (r : Run). r.text) e)
 
 -- the script from the command on that was cut off
 from_here : (rules : Rules) (start : Run) (done rest commands : List Work) (command : Work) → done ++ command ∷ rest ≡ commands → unmet rules start done ≡ true

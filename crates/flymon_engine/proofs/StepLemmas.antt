@@ -30,8 +30,8 @@ asks_none false n = refl
 pub change_unmet : (run : Run) (change : _) → meets run (Change change) ≡ false
 change_unmet run change = asks_none (is_some run.left.fault) (length run.left.list)
 
-pub ask_unmet : (run : Run) (question : _) → meets run (Ask question) ≡ false
-ask_unmet run question = asks_none (is_some run.left.fault) (length run.left.list)
+pub ask_unmet : (run : Run) (request : _) → meets run (Ask request) ≡ false
+ask_unmet run request = asks_none (is_some run.left.fault) (length run.left.list)
 
 -- a piece more was sent
 pub shows_more : (stands : Board → Contents → Type 0) (before : Before) (calls : Option (List Call)) (s0 s1 : Option (List ℕ)) (cells : Contents) (run : Run) (piece : List ℕ)
@@ -110,9 +110,9 @@ pub change_stays : (rules : Rules) (run : Run) (change : _) → (step rules run 
 unfolding step
 change_stays rules run change = refl
 
-pub ask_stays : (rules : Rules) (run : Run) (question : _) → (step rules run (Ask question)).left ≡ run.left
+pub ask_stays : (rules : Rules) (run : Run) (request : _) → (step rules run (Ask request)).left ≡ run.left
 unfolding step
-ask_stays rules run question = refl
+ask_stays rules run request = refl
 
 -- packets were taken, and their number sent
 pub goes_took : {T : Type 0} (rules : Rules) (stands : Board → Contents → Type 0) (comes : Left → Cursor → Type 0) (before : Before) (calls : Option (List Call)) (s0 s1 : Option (List ℕ))

@@ -5,7 +5,7 @@ use Rattle.pkt_headers.specs.declared.packets.Packet.{Packet}
 use Rattle.switch_model.specs.Records.{Record}
 use Rattle.sw_profile.specs.declared.profiles.Profile.{Profile}
 use Rattle.flymon_engine.specs.declared.work.Change.{Change}
-use Rattle.flymon_engine.specs.declared.work.Question.{Question}
+use Rattle.readout.specs.declared.requests.Request.{Request}
 
 -- the live tasks, and the profile of the switch that they stand on
 pub record Board : Type 0 where
@@ -15,7 +15,7 @@ pub record Board : Type 0 where
 abbrev pub no_tasks : Profile → Board
 no_tasks profile = record { profile = profile; records = [] }
 
--- what a change or a question comes to if no call of the outside fails, and the lines that say it
+-- what a change or a request comes to if no call of the outside fails, and the lines that say it
 pub data Verdict : Type 0 where
   Accepted : (lines : List ℕ) → Verdict
   Refused : (lines : List ℕ) → Verdict
@@ -41,6 +41,6 @@ pub record Rules : Type 0 where
   pub change : Board → Change → Move
   pub parts : Board → Change → ℕ
   pub spoil : Board → Change → ℕ → Move
-  pub answer : Board → Question → Verdict
-  pub ask : Board → Question → Move
+  pub answer : Board → Request → Verdict
+  pub ask : Board → Request → Move
   pub finish : Board → Move

@@ -7,7 +7,7 @@ use Rattle.addr_translate.specs.Geometry.{Geometry, array_count, greatest_bits}
 use Rattle.reg_file.specs.Registers.{Contents, Dims}
 use Rattle.reg_file.specs.declared.traits.Call.{Call}
 use Rattle.flymon_engine.specs.declared.work.Change.{Change}
-use Rattle.flymon_engine.specs.declared.work.Question.{Question}
+use Rattle.readout.specs.declared.requests.Request.{Request}
 use Rattle.flymon_engine.specs.declared.machine.AskFault.{AskFault}
 use Rattle.flymon_engine.specs.declared.machine.AskFault.TheVariants.{Device, Write}
 use Rattle.flymon_engine.specs.Boards.{Board, Move, Verdict, Accepted, Refused, lines_in, IsAccepted, Rules}
@@ -51,7 +51,7 @@ abbrev pub Changes : {E : Type 0} → Rules → (Board → Contents → Type 0) 
 Changes rules stands board change (Ok line) before after cells = Judges rules stands board change line.bytes before after cells
 Changes rules stands board change (Err fault) before after cells = Spoils rules stands board change before after cells
 
--- a question was answered, and all lines were sent
+-- a request was answered, and all lines were sent
 pub record SendsAll (answer : Verdict) (before after : Option (List ℕ)) : Type 0 where
   pub lines : List ℕ
   pub is : answer ≡ Accepted lines
@@ -69,8 +69,8 @@ pub record CutsOff (answer : Verdict) (before after : Option (List ℕ)) : Type 
   pub part : CameInPart before lines after
 
 -- the device alone cuts off the answers for which registers are read
-abbrev pub Answers : Question → Verdict → Result (Option ArrayString) AskFault → Option (List ℕ) → Option (List ℕ) → Type 0
-Answers question answer (Ok None) before after = SendsAll answer before after
-Answers question answer (Ok (Some line)) before after = SendsNone answer line.bytes before after
-Answers question answer (Err Device) before after = IsReading question × CutsOff answer before after
-Answers question answer (Err Write) before after = CutsOff answer before after
+abbrev pub Answers : Request → Verdict → Result (Option ArrayString) AskFault → Option (List ℕ) → Option (List ℕ) → Type 0
+Answers request answer (Ok None) before after = SendsAll answer before after
+Answers request answer (Ok (Some line)) before after = SendsNone answer line.bytes before after
+Answers request answer (Err Device) before after = IsReading request × CutsOff answer before after
+Answers request answer (Err Write) before after = CutsOff answer before after

@@ -43,7 +43,7 @@ passed rules run (suc k) = pass_first rules (passed rules run k) (passed rules r
 abbrev pub asked_by : Work → ℕ
 asked_by (Take count) = count
 asked_by (Change change) = 0
-asked_by (Ask question) = 0
+asked_by (Ask request) = 0
 
 -- and how many it takes
 abbrev pub taken_by : Run → Work → ℕ
@@ -61,13 +61,13 @@ packets_line count = codes "packets " ++ (decimal count ++ codes "\n")
 abbrev pub lines_of : Rules → Run → Work → List ℕ
 lines_of rules run (Take count) = packets_line (taken_by run (Take count))
 lines_of rules run (Change change) = lines_in (rules.verdict run.board change)
-lines_of rules run (Ask question) = lines_in (rules.answer run.board question)
+lines_of rules run (Ask request) = lines_in (rules.answer run.board request)
 
 -- what it does
 abbrev pub done_by : Rules → Run → Work → Run
 done_by rules run (Take count) = passed rules run (taken_by run (Take count))
 done_by rules run (Change change) = moved run (rules.change run.board change)
-done_by rules run (Ask question) = moved run (rules.ask run.board question)
+done_by rules run (Ask request) = moved run (rules.ask run.board request)
 
 unfoldable pub step : Rules → Run → Work → Run
 step rules run command = sends (done_by rules run command) (lines_of rules run command)

@@ -25,13 +25,13 @@ pub record PartOf (rules : Rules) (run : Run) (change : changes.Change) (here : 
 abbrev pub SpoilsTo : Rules → Run → Work → Run → Type 0
 SpoilsTo rules run (Take count) here = ⊥
 SpoilsTo rules run (Change change) here = PartOf rules run change here
-SpoilsTo rules run (Ask question) here = here ≡ moved run (rules.ask run.board question)
+SpoilsTo rules run (Ask request) here = here ≡ moved run (rules.ask run.board request)
 
 -- the device can refuse it: registers are filled or read for it, and its lines are no refusal
 abbrev pub IsServed : Rules → Run → Work → Type 0
 IsServed rules run (Take count) = ⊥
 IsServed rules run (Change change) = IsFilling change × IsAccepted (rules.verdict run.board change)
-IsServed rules run (Ask question) = IsReading question × IsAccepted (rules.answer run.board question)
+IsServed rules run (Ask request) = IsReading request × IsAccepted (rules.answer run.board request)
 
 -- a proper front of the lines
 pub record Cuts (all front : List ℕ) : Type 0 where

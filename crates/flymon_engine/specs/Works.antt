@@ -6,8 +6,15 @@ use Rattle.flymon_engine.specs.declared.work.Work.{Work}
 use Rattle.flymon_engine.specs.declared.work.Work.TheVariants as works
 use Rattle.flymon_engine.specs.declared.work.Change.{Change}
 use Rattle.flymon_engine.specs.declared.work.Change.TheVariants as changes
-use Rattle.flymon_engine.specs.declared.work.Question.{Question}
-use Rattle.flymon_engine.specs.declared.work.Question.TheVariants as questions
+use Rattle.readout.specs.declared.requests.Request.{Request}
+use Rattle.readout.specs.declared.requests.Request.TheVariants as requests
+use Rattle.readout.specs.declared.requests.Ask.{Ask}
+use Rattle.readout.specs.declared.requests.Ask.TheVariants as asks
+use Rattle.readout.specs.declared.views.Side.TheVariants as sides
+
+-- a read-out of one task
+abbrev pub about : List ℕ → Ask → Work
+about name ask = works.Ask (requests.Task name ask)
 
 -- `run` asks for as many packets as a run looks at
 abbrev pub work_of : Command → Work
@@ -17,13 +24,13 @@ work_of (commands.Add task) = works.Change (changes.Add task)
 work_of (commands.Resize name size) = works.Change (changes.Resize name size)
 work_of (commands.Remove name) = works.Change (changes.Remove name)
 work_of (commands.Release name) = works.Change (changes.Release name)
-work_of (commands.Read name) = works.Ask (questions.Read name)
-work_of (commands.Frozen name) = works.Ask (questions.Frozen name)
-work_of (commands.Query name at) = works.Ask (questions.Query name at)
-work_of (commands.Dist name) = works.Ask (questions.Dist name)
-work_of (commands.Card name) = works.Ask (questions.Card name)
-work_of commands.Show = works.Ask questions.Show
-work_of commands.Stat = works.Ask questions.Stat
+work_of (commands.Read name) = about name (asks.Cells sides.Live)
+work_of (commands.Frozen name) = about name (asks.Cells sides.Frozen)
+work_of (commands.Query name at) = about name (asks.Query at)
+work_of (commands.Dist name) = about name asks.Dist
+work_of (commands.Card name) = about name asks.Card
+work_of commands.Show = works.Ask requests.Show
+work_of commands.Stat = works.Ask requests.Stat
 
 abbrev pub works_of : List Command → List Work
 works_of commands = map work_of commands
@@ -36,11 +43,7 @@ IsFilling (changes.Remove name) = ⊥
 IsFilling (changes.Release name) = ⊥
 
 -- registers are read for it, and the device may refuse that
-abbrev pub IsReading : Question → Type 0
-IsReading (questions.Read name) = Unit {0}
-IsReading (questions.Frozen name) = Unit {0}
-IsReading (questions.Query name at) = Unit {0}
-IsReading (questions.Dist name) = Unit {0}
-IsReading (questions.Card name) = Unit {0}
-IsReading questions.Show = ⊥
-IsReading questions.Stat = ⊥
+abbrev pub IsReading : Request → Type 0
+IsReading (requests.Task name ask) = Unit {0}
+IsReading requests.Show = ⊥
+IsReading requests.Stat = ⊥

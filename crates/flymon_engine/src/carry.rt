@@ -17,9 +17,10 @@ use crate::captures::next_packet;
 use crate::lines::{line_packets, send};
 use crate::machine::{AskFault, Machine};
 use crate::stop::Halt;
-use crate::work::{Change, Question, Work, work_of};
+use crate::work::{Change, Work, work_of};
 use capture_read::{Capture, CaptureFault};
 use fm_io::{Files, Sink};
+use readout::Request;
 use reg_file::{DeviceFault, RegFile};
 use task_lang::Command;
 
@@ -98,7 +99,7 @@ fn carry_one<F: Files, M: Machine, R: RegFile, O: Sink>(
     match work_of(command) {
         Work::Take(asked) => take(asked, capture, files, machine, regs, out),
         Work::Change(change) => change_tasks(&change, machine, regs, out),
-        Work::Ask(question) => ask(&question, machine, regs, out),
+        Work::Ask(request) => ask(&request, machine, regs, out),
     }
 }
 
@@ -205,7 +206,7 @@ fn change_tasks<M: Machine, R: RegFile, O: Sink>(
 
 /// A read-out, or the line that says that it is refused.
 fn ask<M: Machine, R: RegFile, O: Sink>(
-    question: &Question,
+    request: &Request,
     machine: &mut M,
     regs: &mut R,
     out: &mut O,
@@ -219,9 +220,9 @@ fn ask<M: Machine, R: RegFile, O: Sink>(
     ensures cells { WasTold (R.contents regs.old) (R.contents regs.new) }
     ensures run { (before : Before) (run : Run) → Told (λ old new.
         Shows (M.stands machine.old) before (R.calls regs.old) (O.sent out.old) old run
-        → (at : ℕ) → GoesOn M.rules (M.stands machine.new) before (R.calls regs.new) (O.sent out.new) result run (Work.Ask question.now) at new) (R.contents regs.old) (R.contents regs.new) }
+        → (at : ℕ) → GoesOn M.rules (M.stands machine.new) before (R.calls regs.new) (O.sent out.new) result run (Work.Ask request.now) at new) (R.contents regs.old) (R.contents regs.new) }
 {
-    match machine.ask(regs, question, out) {
+    match machine.ask(regs, request, out) {
         Ok(None) => Ok(()),
         Ok(Some(line)) => send(out, &line),
         Err(AskFault::Device) => Err(Halt::Device),

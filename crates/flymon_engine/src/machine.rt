@@ -7,10 +7,11 @@ ghost use Rattle.flymon_engine.specs.Boards.{Board, Rules, no_tasks};
 ghost use Rattle.flymon_engine.specs.Moves.{dims_of, WasTold, Moves, Changes, Answers, NoCalls};
 
 use sw_profile::Profile;
-use crate::work::{Change, Question};
+use crate::work::Change;
 use fm_io::Sink;
 use key_mask::Line;
 use pkt_headers::Packet;
+use readout::Request;
 use reg_file::{DeviceFault, RegFile};
 use std::alloc::Global;
 
@@ -91,7 +92,7 @@ pub(crate) trait Machine {
     fn ask<R: RegFile, O: Sink>(
         &mut self,
         regs: &mut R,
-        question: &Question,
+        request: &Request,
         out: &mut O,
     ) -> Result<Option<Line>, AskFault>
         requires { fits self.old (R.dims regs.old) }
@@ -103,7 +104,7 @@ pub(crate) trait Machine {
         ensures write { IsErrOf result AskFault.Write → Rose (O.faults out.old) (O.faults out.new) }
         ensures told { WasTold (R.contents regs.old) (R.contents regs.new) }
         ensures moves { (board : Board) → Told (λ old new. stands self.old board old
-            → Moves (stands self.new) (rules.ask board question.now) (R.calls regs.old) (R.calls regs.new) new) (R.contents regs.old) (R.contents regs.new) }
+            → Moves (stands self.new) (rules.ask board request.now) (R.calls regs.old) (R.calls regs.new) new) (R.contents regs.old) (R.contents regs.new) }
         ensures sent { (board : Board) → Told (λ old new. stands self.old board old
-            → Answers question.now (rules.answer board question.now) result (O.sent out.old) (O.sent out.new)) (R.contents regs.old) (R.contents regs.new) };
+            → Answers request.now (rules.answer board request.now) result (O.sent out.old) (O.sent out.new)) (R.contents regs.old) (R.contents regs.new) };
 }

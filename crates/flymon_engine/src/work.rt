@@ -1,9 +1,9 @@
 //! What a command asks for.
 ghost use Rattle.std.specs.Prelude.{◌≡◌};
-ghost use Rattle.flymon_engine.specs.Works.{work_of};
+ghost use Rattle.flymon_engine.specs.Works.{work_of, about};
 
+use readout::{Ask, Request, Side};
 use sketch_defs::{Name, Task};
-use task_filters::Filter;
 use task_lang::Command;
 
 /// A change of the tasks.
@@ -15,24 +15,12 @@ pub(crate) enum Change {
     Release(Name),
 }
 
-/// A question to the tasks, answered by lines.
-#[derive(Clone, Copy, Debug, PartialEq, Eq)]
-pub(crate) enum Question {
-    Read(Name),
-    Frozen(Name),
-    Query { name: Name, at: Filter },
-    Dist(Name),
-    Card(Name),
-    Show,
-    Stat,
-}
-
 /// Packets, at most so many; a change; or an answer.
 #[derive(Clone, Copy, Debug, PartialEq, Eq)]
 pub(crate) enum Work {
     Take(u32),
     Change(Change),
-    Ask(Question),
+    Ask(Request),
 }
 
 /// What the command asks for.
@@ -46,12 +34,19 @@ pub(crate) fn work_of(command: &Command) -> Work
         Command::Resize { name, size } => Work::Change(Change::Resize { name, size }),
         Command::Remove(name) => Work::Change(Change::Remove(name)),
         Command::Release(name) => Work::Change(Change::Release(name)),
-        Command::Read(name) => Work::Ask(Question::Read(name)),
-        Command::Frozen(name) => Work::Ask(Question::Frozen(name)),
-        Command::Query { name, at } => Work::Ask(Question::Query { name, at }),
-        Command::Dist(name) => Work::Ask(Question::Dist(name)),
-        Command::Card(name) => Work::Ask(Question::Card(name)),
-        Command::Show => Work::Ask(Question::Show),
-        Command::Stat => Work::Ask(Question::Stat),
+        Command::Read(name) => about(name, Ask::Cells(Side::Live)),
+        Command::Frozen(name) => about(name, Ask::Cells(Side::Frozen)),
+        Command::Query { name, at } => about(name, Ask::Query(at)),
+        Command::Dist(name) => about(name, Ask::Dist),
+        Command::Card(name) => about(name, Ask::Card),
+        Command::Show => Work::Ask(Request::Show),
+        Command::Stat => Work::Ask(Request::Stat),
     }
+}
+
+/// A read-out of one task.
+fn about(name: Name, ask: Ask) -> Work
+    ensures { result ≡ about name ask }
+{
+    Work::Ask(Request::Task { name, ask })
 }

@@ -1,2 +1,3 @@
 mod Places
 mod Values
+pub mod ReadLemmas

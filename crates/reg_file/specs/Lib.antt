@@ -1,4 +1,5 @@
 pub mod Registers
+pub mod Reads
 pub mod Words
 pub mod RamFile
 pub mod Log

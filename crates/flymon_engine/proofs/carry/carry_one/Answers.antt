@@ -25,7 +25,7 @@ returns-in-Ask-clause-run g c = let r = g.R.RegFile in let f = g.F.Files in let 
     (λ t d e goes is. subst (λ (x : Work). Goes m.rules (m.stands c.ask.new.machine) (Comes c.args.capture.now) before (r.calls c.ask.new.regs) (o.sent c.ask.new.out) c.ask.result run x t e)
         c.in-Ask.ensures
         (goes_at m.rules (m.stands c.args.machine.now) (m.stands c.ask.new.machine) (Comes c.args.capture.now) before (r.calls c.args.regs.now) (r.calls c.ask.new.regs)
-        (o.sent c.args.out.now) (o.sent c.ask.new.out) run (Ask c.in-Ask.question) c.ask.result t d e (ask_stays m.rules run c.in-Ask.question) goes is))
+        (o.sent c.args.out.now) (o.sent c.ask.new.out) run (Ask c.in-Ask.request) c.ask.result t d e (ask_stays m.rules run c.in-Ask.request) goes is))
     (c.ask.ensures.run before run) at
 
 pub returns-in-Take-clause-run : goal.returns-in-Take-clause-run
