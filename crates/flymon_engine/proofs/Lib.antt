@@ -6,3 +6,4 @@ pub mod FileLemmas
 pub mod EndLemmas
 pub mod GoLemmas
 pub mod ClauseLemmas
+pub mod IsolationLemmas

@@ -13,3 +13,7 @@ pub mod Opening
 pub mod Messages
 pub mod Endings
 pub mod Clauses
+pub mod ChangeLines
+pub mod Shown
+pub mod Serial
+pub mod Laws

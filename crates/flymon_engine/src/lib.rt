@@ -3,6 +3,7 @@
 
 mod captures;
 mod carry;
+pub mod laws;
 mod lines;
 mod machine;
 mod opening;
