@@ -35,10 +35,10 @@ took_none rules stands comes before calls sent run tape cells now = record { roo
 room_next : {A : Type 0} (k : ℕ) (xs rest : List A) (x : A) → drop k xs ≡ x ∷ rest → k + 1 ≤ length xs
 room_next k xs rest x e = omega (arith, length-drop k xs, ap length e)
 
-drop_next : {A : Type 0} (k : ℕ) (xs rest : List A) (x : A) → drop k xs ≡ x ∷ rest → drop (k + 1) xs ≡ rest
+pub drop_next : {A : Type 0} (k : ℕ) (xs rest : List A) (x : A) → drop k xs ≡ x ∷ rest → drop (k + 1) xs ≡ rest
 drop_next k xs rest x e = let more = drop_more xs k x (omega (arith, room_next k xs rest x e)) in cc
 
-take_next : {A : Type 0} (k : ℕ) (xs rest : List A) (x : A) → drop k xs ≡ x ∷ rest → take (k + 1) xs ≡ take k xs ++ x ∷ []
+pub take_next : {A : Type 0} (k : ℕ) (xs rest : List A) (x : A) → drop k xs ≡ x ∷ rest → take (k + 1) xs ≡ take k xs ++ x ∷ []
 take_next k xs rest x e =
     let room : k < length xs = omega (arith, room_next k xs rest x e) in
     let more = drop_more xs k x room in let same : get_or xs k x ≡ x = cc in
