@@ -19,14 +19,21 @@ use Rattle.sketch_defs.specs.Cells.{key_hash, row_of}
 use Rattle.sketch_defs.specs.Tasks.{Sketch}
 use Rattle.readout.specs.declared.refusals.Refusal.{Refusal}
 use Rattle.readout.specs.declared.refusals.Refusal.TheVariants.{Unknown, NoFrozen, NoAnswer, BadKey}
+use Rattle.readout.specs.declared.faults.ReadFault.{ReadFault}
+use Rattle.readout.specs.declared.faults.ReadFault.TheVariants.{Write}
 use Rattle.readout.specs.declared.refusals.Stop.{Stop}
+use Rattle.readout.specs.declared.refusals.Stop.TheVariants as stops
+use Rattle.std.specs.Result.{IsErrAnd, IfErr, OnErr}
+use Rattle.readout.specs.declared.requests.Ask.{Ask}
+use Rattle.readout.specs.declared.requests.Request.{Request}
+use Rattle.readout.specs.declared.requests.Request.TheVariants.{Task, Show, Stat}
 use Rattle.readout.specs.declared.views.Side.{Side}
 use Rattle.readout.specs.declared.views.Side.TheVariants.{Live, Frozen}
 use Rattle.readout.specs.Parts.{Rows, SketchPart}
-use Rattle.readout.specs.PlacedTasks.{PlacedTask, HasSide, place_at, part_in, rows_of_side}
-use Rattle.readout.specs.Lines.{query_line, dist_lines, card_line}
-use Rattle.readout.specs.Answers.{Answer, lines_of_rows, lines_of_frozen, lines_of_cells, line_of_reply, line_of_query, lines_of_dist, line_of_card, answer_if_live, is_mrac, is_hll}
-use Rattle.readout.specs.Outcomes.{Outcome, Judges, IsAllowed, Replies}
+use Rattle.readout.specs.PlacedTasks.{PlacedTask, View, HasSide, place_at, part_in, parts_in, rows_of_side}
+use Rattle.readout.specs.Lines.{query_line, dist_lines, card_line, show_lines, stat_lines}
+use Rattle.readout.specs.Answers.{Answer, lines_of_rows, lines_of_frozen, lines_of_cells, line_of_reply, line_of_query, lines_of_dist, line_of_card, answer_if_live, answer_by, answer_to, task_answer, is_mrac, is_hll}
+use Rattle.readout.specs.Outcomes.{Outcome, Judges, IsAllowed, Replies, outcome_of}
 use Rattle.readout.proofs.CellLemmas.{told_all, told_then}
 
 -- ---- by the name
@@ -212,3 +219,70 @@ other_mask a b true e h =
 -- two masks that are not the same
 pub masks_differ : (a b : List ℕ) → true ≡ not (bytes_eq a b && bytes_eq (mask_bytes_of a) (mask_bytes_of b)) → bytes_eq a b ≡ false
 masks_differ a b h = other_mask a b (bytes_eq a b) refl h
+
+-- the outcomes that calls tell by their faults
+pub refusal_told : (result : Result (Unit {0}) ReadFault) (refusal : Refusal) → IsErrAnd result (λ fault. outcome_of (Err fault) ≡ Ok (Err refusal))
+    → outcome_of result ≡ Ok (Err refusal)
+refusal_told (Ok x) refusal told = absurd told
+refusal_told (Err fault) refusal told = told
+
+pub stop_told : (result : Result (Unit {0}) ReadFault) (stop : Stop) → IsErrAnd result (λ fault. outcome_of (Err fault) ≡ Err stop) → outcome_of result ≡ Err stop
+stop_told (Ok x) stop told = absurd told
+stop_told (Err fault) stop told = told
+
+-- no stop at a refusal, and one at a stop
+pub no_stop : (outcome : Outcome) (refusal : Refusal) (P : Stop → Type 0) → outcome ≡ Ok (Err refusal) → IfErr outcome P
+no_stop outcome refusal P is = subst (λ (o : Outcome). IfErr o P) (sym is) tt
+
+pub one_stop : (outcome : Outcome) (stop : Stop) (P : Stop → Type 0) → outcome ≡ Err stop → P stop → IfErr outcome P
+one_stop outcome stop P is p = subst (λ (o : Outcome). IfErr o P) (sym is) p
+
+-- lines told through the answer
+pub told_line : (cells : Option Contents) (answer : Contents → Answer) (lines : Contents → List ℕ) (P : List ℕ → Type 0)
+    → ((told : Contents) → answer told ≡ Ok (lines told)) → IfSome cells (λ told. IfOk (answer told) P) → IfSome cells (λ told. P (lines told))
+told_line cells answer lines P all sent =
+    told_then cells (λ told. IfOk (answer told) P) (λ told. P (lines told)) (λ told p. subst (λ (a : Answer). IfOk a P) (all told) p) sent
+
+-- a read-out that reads no register
+pub shown_so : (result : Result (Unit {0}) ReadFault) (cells : Option Contents) (before after : Option (List ℕ)) (lines : List ℕ)
+    → IfErr result (λ fault. fault ≡ Write) → Sends before lines result after → Replies (λ told. Ok lines) cells before (outcome_of result) after
+shown_so (Ok x) cells before after lines write sent =
+    sent_so (λ told. Ok lines) cells before after (λ told. lines) (λ told. refl)
+    (told_all cells (λ told. Sends {T = Result (Unit {0}) Refusal} {E = Stop} before lines (Ok (Ok tt)) after) (λ told. sent))
+shown_so (Err fault) cells before after lines write sent =
+    stopped_so (λ told. Ok lines) cells before after (λ told. lines) (outcome_of (Err fault)) stops.Write (ap (λ f. outcome_of (Err f)) write) (λ told. refl)
+    (told_all cells (λ told. Sends {T = Unit {0}} {E = Stop} before lines (Err stops.Write) after) (λ told. sent))
+
+pub shown_stop : (result : Result (Unit {0}) ReadFault) (P : Stop → Type 0) → IfErr result (λ fault. fault ≡ Write) → OnErr result (P stops.Write) → IfErr (outcome_of result) P
+shown_stop (Ok x) P write stop = tt
+shown_stop (Err fault) P write stop = subst (λ f. IfErr (outcome_of (Err f)) P) (sym write) stop
+
+-- ---- requests
+
+pub task_replies : (hash_key : List ℕ) (view : View) (request : Request) (name : List ℕ) (ask asked : Ask) (cells : Option Contents) (before after : Option (List ℕ)) (outcome : Outcome)
+    → request ≡ Task name ask → ask ≡ asked
+    → Replies (λ told. answer_by name (task_answer hash_key asked) (parts_in told view)) cells before outcome after
+    → Replies (λ told. answer_to hash_key request view (parts_in told view)) cells before outcome after
+unfolding answer_to
+task_replies hash_key view request name ask asked cells before after outcome is asks replies =
+    subst (λ (r : Request). Replies (λ told. answer_to hash_key r view (parts_in told view)) cells before outcome after) (sym is)
+    (subst (λ (a : Ask). Replies (λ told. answer_by name (task_answer hash_key a) (parts_in told view)) cells before outcome after) (sym asks) replies)
+
+pub view_replies : (hash_key : List ℕ) (view : View) (request asked : Request) (lines : List ℕ) (cells : Option Contents) (before after : Option (List ℕ)) (outcome : Outcome)
+    → request ≡ asked → ((parts : List SketchPart) → answer_to hash_key asked view parts ≡ Ok lines)
+    → Replies (λ told. Ok lines) cells before outcome after
+    → Replies (λ told. answer_to hash_key request view (parts_in told view)) cells before outcome after
+view_replies hash_key view request asked lines cells before after outcome is all replies =
+    subst (λ (r : Request). Replies (λ told. answer_to hash_key r view (parts_in told view)) cells before outcome after) (sym is) (record {
+      verdict = λ told. subst (λ (a : Answer). Judges a before outcome after) (sym (all (parts_in told view))) (replies.verdict told);
+      sent = told_then cells (λ told. Sends before lines outcome after) (λ told. IfOk (answer_to hash_key asked view (parts_in told view)) (λ l. Sends before l outcome after))
+          (λ told p. subst (λ (a : Answer). IfOk a (λ l. Sends before l outcome after)) (sym (all (parts_in told view))) p) replies.sent;
+    })
+
+pub shows : (hash_key : List ℕ) (view : View) (parts : List SketchPart) → answer_to hash_key Show view parts ≡ Ok (show_lines view)
+unfolding answer_to
+shows hash_key view parts = refl
+
+pub stats : (hash_key : List ℕ) (view : View) (parts : List SketchPart) → answer_to hash_key Stat view parts ≡ Ok (stat_lines view)
+unfolding answer_to
+stats hash_key view parts = refl

@@ -5,3 +5,6 @@ mod DistLemmas
 mod PieceLemmas
 mod PlacedTaskLemmas
 mod QueryLemmas
+mod ShowLemmas
+mod TwoTasksLemmas
+pub mod Values

@@ -57,7 +57,7 @@ gathers_then (Err e) a b c piece text mid more left far front = came_front a b c
 
 -- ---- the texts of a list, one after the other
 
-flat_next : {X : Type 0} (f : X → List ℕ) (xs : List X) (i : ℕ) (d : X) → i < length xs
+pub flat_next : {X : Type 0} (f : X → List ℕ) (xs : List X) (i : ℕ) (d : X) → i < length xs
     → flat_map f (take (i + 1) xs) ≡ flat_map f (take i xs) ++ f (slice_index_or xs i d)
 flat_next f [] i d inside = absurd (omega arith)
 flat_next f (x ∷ xs) zero d inside = append-nil (f x)
@@ -133,3 +133,23 @@ gathers_at_err (Err e) a b piece text left failed front = front
 pub cause_then : {T E D : Type 0} (result : Result T E) (fault : D) (a b c : ℕ) → a ≤ b → HasCause {T = T} b c (Err fault) → HasCause a c result
 cause_then (Ok x) fault a b c later cause = record { later = omega (arith, later, cause.later); failed = tt }
 cause_then (Err e) fault a b c later cause = record { later = omega (arith, later, cause.later); failed = omega (arith, later, cause.failed) }
+
+-- ---- a list whose texts are put into a piece in which room is made for each
+
+pub flat_put : {X : Type 0} (a b c : Option (List ℕ)) (first : List ℕ) (f : X → List ℕ) (xs : List X) (i : ℕ) (d : X) (piece mid left line : List ℕ) → i < length xs
+    → f (slice_index_or xs i d) ≡ line → FlatSoFar a first f xs i piece b → CameSoFar b (piece ++ []) mid c → left ≡ mid ++ line
+    → FlatSoFar a first f xs (i + 1) left c
+flat_put a b c first f xs i d piece mid left line inside is far room put =
+    flat_more a b c first f xs i d piece left inside far
+    (subst (λ t. CameSoFar b (piece ++ t) left c) (sym is) (subst (λ l. CameSoFar b (piece ++ line) l c) (sym put) (room_put b c piece line mid room)))
+
+pub flat_unput : {X T E : Type 0} (result : Result T E) (a b c : Option (List ℕ)) (first : List ℕ) (f : X → List ℕ) (xs : List X) (i : ℕ) (d : X) (piece left : List ℕ) → i < length xs
+    → IsErr result → FlatSoFar a first f xs i piece b → CameInFront b (piece ++ []) c → Gathers a first (flat_map f xs) result left c
+flat_unput result a b c first f xs i d piece left inside failed far front =
+    gathers_at_err result a c first (flat_map f xs) left failed
+    (flat_cut a b c first f xs i d piece inside far (front_of_more b c piece [] (f (slice_index_or xs i d)) front))
+
+pub flat_stop : {X T E : Type 0} (result : Result T E) (a b c : Option (List ℕ)) (first : List ℕ) (f : X → List ℕ) (xs : List X) (i : ℕ) (d : X) (piece left : List ℕ) → i < length xs
+    → IsErr result → FlatSoFar a first f xs i piece b → CameInFront b (piece ++ f (slice_index_or xs i d)) c → Gathers a first (flat_map f xs) result left c
+flat_stop result a b c first f xs i d piece left inside failed far front =
+    gathers_at_err result a c first (flat_map f xs) left failed (flat_cut a b c first f xs i d piece inside far front)

@@ -72,11 +72,16 @@ abbrev pub frozen_text : Option Block → List ℕ
 frozen_text None = []
 frozen_text (Some block) = codes " frozen" ++ block_text block
 
+-- a row, and the array that it stands on
+abbrev pub stand_text : Geometry → ℕ → ℕ → List ℕ
+stand_text geometry row array =
+    codes "row " ++ (decimal row ++ (codes " group " ++ (decimal (group_number geometry array) ++ (codes " cmu " ++ decimal (cmu_number geometry array)))))
+
 -- `row I group G cmu C base B size N keys U`
 unfoldable pub place_line : Geometry → ℕ → Placed → List ℕ
 place_line geometry row place =
-    codes "row " ++ (decimal row ++ (codes " group " ++ (decimal (group_number geometry place.array) ++ (codes " cmu " ++ (decimal (cmu_number geometry place.array)
-    ++ (block_text place.region ++ (codes " keys " ++ (keys_text place.keys ++ (frozen_text place.frozen ++ codes "\n")))))))))
+    stand_text geometry row place.array
+    ++ (block_text place.region ++ (codes " keys " ++ (keys_text place.keys ++ (frozen_text place.frozen ++ codes "\n"))))
 
 -- the line of a task, and those of its rows
 unfoldable pub task_lines : Geometry → PlacedTask → List ℕ

@@ -1,7 +1,7 @@
 //! The lines of read-outs, each put behind those of a piece that has room for it.
 ghost use Rattle.std.specs.Prelude.{◌≡◌, ◌≢◌, ℕ, ◌+◌, ◌≤◌, ◌<◌, ◌++◌, length, codes};
 ghost use Rattle.addr_translate.specs.Geometry.{array_count};
-ghost use Rattle.readout.specs.Lines.{head_line, cell_line, reply_text, query_line, size_line, card_line, block_text, keys_text, frozen_text, place_line};
+ghost use Rattle.readout.specs.Lines.{head_line, cell_line, reply_text, query_line, size_line, card_line, block_text, keys_text, frozen_text, stand_text, place_line};
 
 use crate::pieces::Piece;
 use crate::places::cell_count;
@@ -117,14 +117,24 @@ pub(crate) fn put_place(piece: &mut Piece, shape: &Shape, row: u32, place: &Plac
     requires array { place.now.array < array_count shape.now }
     ensures { piece.new.bytes ≡ piece.old.bytes ++ place_line shape.now row place.now }
 {
-    put_number(piece, "row ", row);
-    put_number(piece, " group ", shape.group_of(place.array));
-    put_number(piece, " cmu ", shape.cmu_of(place.array));
+    put_stand(piece, shape, row, place.array);
     put_block(piece, place.region);
     piece.push_str(" keys ");
     put_keys(piece, place.keys);
     put_frozen(piece, place.frozen);
     piece.push_str("\n");
+}
+
+/// Appends the number of a row, and the array that it stands on.
+fn put_stand(piece: &mut Piece, shape: &Shape, row: u32, array: u32)
+    requires room { length piece.old.bytes + 137 ≤ 4096 }
+    requires array { array < array_count shape.now }
+    ensures text { piece.new.bytes ≡ piece.old.bytes ++ stand_text shape.now row array }
+    ensures short { length piece.new.bytes ≤ length piece.old.bytes + 137 }
+{
+    put_number(piece, "row ", row);
+    put_number(piece, " group ", shape.group_of(array));
+    put_number(piece, " cmu ", shape.cmu_of(array));
 }
 
 /// Appends where a partition begins, and how many registers it has.
@@ -147,8 +157,7 @@ fn put_keys(piece: &mut Piece, keys: KeyUse)
         KeyUse::Single { unit } => piece.push_str(Buffer::new().format(unit)),
         KeyUse::Pair { one, two } => {
             piece.push_str(Buffer::new().format(one));
-            piece.push_str("+");
-            piece.push_str(Buffer::new().format(two));
+            put_number(piece, "+", two);
         }
     }
 }

@@ -6,7 +6,7 @@ ghost use Rattle.reg_file.specs.Registers.{Contents};
 ghost use Rattle.reg_file.specs.Reads.{OnlyReads};
 ghost use Rattle.readout.specs.PlacedTasks.{PlacedTask, task_named, live_bits, parts_in, IsFit, IsShaped, AreWithin};
 ghost use Rattle.readout.specs.Lines.{show_lines, stat_lines};
-ghost use Rattle.readout.specs.Answers.{answer_by, answer_to, task_answer, lines_of_cells, line_of_query, lines_of_dist, line_of_card};
+ghost use Rattle.readout.specs.Answers.{answer_by, answer_to, lines_of_cells, line_of_query, lines_of_dist, line_of_card};
 ghost use Rattle.readout.specs.Outcomes.{Replies, IsStopOf, outcome_of};
 
 use crate::OutOfMemory;
@@ -170,31 +170,34 @@ impl Readout {
         send_stat(view, sink).map_err(|_| ReadFault::Write)
     }
 
-    /// Carries out a read-out of one task.
-    fn ask<V: TaskView, R: RegFile, S: Sink>(
+    /// Carries out a read-out by the call for it.
+    fn carry_out<V: TaskView, R: RegFile, S: Sink>(
         &mut self,
         view: &V,
         regs: &mut R,
         hash_key: &HashKey,
-        name: &Name,
-        ask: &Ask,
+        request: &Request,
         sink: &mut S,
     ) -> Result<(), ReadFault>
         requires fit { IsFit (V.seen view.now) }
         requires shaped { IsShaped (V.seen view.now).geometry (R.dims regs.old) }
         requires room { AreWithin self.old (V.seen view.now) }
-        ensures replies { Replies (λ told. answer_by name.now (task_answer hash_key.now ask.now) (parts_in told (V.seen view.now)))
+        ensures replies { Replies (λ told. answer_to hash_key.now request.now (V.seen view.now) (parts_in told (V.seen view.now)))
             (R.contents regs.new) (S.sent sink.old) (outcome_of result) (S.sent sink.new) }
         ensures cause { IfErr (outcome_of result) (IsStopOf R.RegFile S.Sink regs.old regs.new sink.old sink.new) }
         ensures later { S.faults sink.old ≤ S.faults sink.new }
         ensures reads { OnlyReads R.RegFile regs.old regs.new }
         ensures room { self.new ≡ self.old }
     {
-        match ask {
-            Ask::Cells(side) => self.cells(view, regs, name, *side, sink),
-            Ask::Query(at) => self.query(view, regs, hash_key, name, at, sink),
-            Ask::Dist => self.dist(view, regs, name, sink),
-            Ask::Card => self.card(view, regs, name, sink),
+        match request {
+            Request::Task { name, ask } => match ask {
+                Ask::Cells(side) => self.cells(view, regs, name, *side, sink),
+                Ask::Query(at) => self.query(view, regs, hash_key, name, at, sink),
+                Ask::Dist => self.dist(view, regs, name, sink),
+                Ask::Card => self.card(view, regs, name, sink),
+            },
+            Request::Show => self.show(view, sink),
+            Request::Stat => self.stat(view, sink),
         }
     }
 
@@ -217,10 +220,6 @@ impl Readout {
         ensures reads { OnlyReads R.RegFile regs.old regs.new }
         ensures room { self.new ≡ self.old }
     {
-        split(match request {
-            Request::Task { name, ask } => self.ask(view, regs, hash_key, name, ask, sink),
-            Request::Show => self.show(view, sink),
-            Request::Stat => self.stat(view, sink),
-        })
+        split(self.carry_out(view, regs, hash_key, request, sink))
     }
 }

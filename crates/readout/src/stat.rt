@@ -1,7 +1,7 @@
 //! What is in use of a switch, as lines.
-ghost use Rattle.std.specs.Prelude.{◌≡◌, ◌+◌, ◌*◌, ◌<◌, ◌≤◌, ◌++◌, codes, length};
+ghost use Rattle.std.specs.Prelude.{◌≡◌, ◌+◌, ◌*◌, ◌==◌, ◌<◌, ◌≤◌, ◌++◌, codes, length};
 ghost use Rattle.std.specs.Fmt.{decimal};
-ghost use Rattle.std.specs.List.{flat_map, range_with_len};
+ghost use Rattle.std.specs.List.{flat_map, list_all, range_with_len};
 ghost use Rattle.outside.specs.Faults.{HasCause};
 ghost use Rattle.outside.specs.Sent.{Sends};
 ghost use Rattle.addr_translate.specs.Geometry.{array_count, group_in};
@@ -18,12 +18,18 @@ use fm_io::{Failed, Sink};
 use hex::encode_to_slice;
 use key_mask::{KEY_BYTES, Mask};
 
+fn are_zero(bytes: &[u8]) -> bool
+    ensures { result ≡ list_all (λ byte. byte == 0) bytes.now }
+{
+    bytes.iter().all(|byte| *byte == 0)
+}
+
 /// The bytes of a mask that are told: those of the fields that no IPv6 address has, where no other
 /// stands in it.
 fn told_bytes(bytes: &[u8; KEY_BYTES]) -> &[u8]
     ensures { result.now ≡ told_bytes bytes.now }
 {
-    if bytes[16..].iter().all(|byte| *byte == 0) {
+    if are_zero(&bytes[16..]) {
         &bytes[..16]
     } else {
         bytes

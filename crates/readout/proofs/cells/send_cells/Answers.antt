@@ -1,6 +1,7 @@
 use Rattle.std.proofs.Common.{Ok, IfSome, subst, codes, ◌++◌, ◌≡◌, ◌^◌, ◌∙◌, ap, length}
 use Rattle.std.specs.List.{flat_map}
 use Rattle.outside.specs.Sent.{CameSoFar, CameInFront}
+use Rattle.readout.specs.declared.refusals.Stop.{Stop}
 use Rattle.readout.specs.PlacedTasks.{task_in, place_in, block_of}
 use Rattle.readout.specs.Lines.{head_line}
 use Rattle.readout.proofs.PieceLemmas.{sends_at_err}
@@ -15,7 +16,7 @@ returns-clause-sent g c =
     c.begin_cells-piece.ensures
     ∙ ap (head_line c.args.side placed.task.name (length placed.places) (2 ^ (block_of c.args.side (place_in (v.seen c.args.view.now) c.args.at 0)).bits)) c.start_of.ensures in
     cells_sent (r.contents c.gather_rows.new.regs) (s.sent c.args.sink.now) (s.sent c.gather_rows.new.sink) (s.sent c.end_block.new.sink) c.args.side placed
-    c.begin_cells-piece.result.bytes c.gather_rows.new.piece.bytes _ _ (Ok c.in_ok-end_block.field-0) head
+    c.begin_cells-piece.result.bytes c.gather_rows.new.piece.bytes (Unit {0}) Stop (Ok c.in_ok-end_block.field-0) head
     (subst (λ start. IfSome (r.contents c.gather_rows.new.regs) (λ told. CameSoFar (s.sent c.args.sink.now)
     (c.begin_cells-piece.result.bytes ++ flat_map (row_of_lines start) (rows_at c.args.side placed told)) c.gather_rows.new.piece.bytes (s.sent c.gather_rows.new.sink)))
     c.start_of.ensures c.in_ok-gather_rows.ensures.sent)
