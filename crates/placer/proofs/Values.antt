@@ -84,12 +84,14 @@ nine_arrays = equal_geometry 3 (record { cmus = 3; units = 3; bits = 10 }) 5
 abbrev empty : Sight
 empty = record { rules = replicate 9 []; units = replicate 3 (replicate 3 None); taken = replicate 9 [] }
 
-three_rows : placed nine_arrays empty (task Cms 3 all 32) 5 ≡ Ok (place 0 (block 0 5) ∷ place 1 (block 0 5) ∷ place 2 (block 0 5) ∷ [])
+three_rows : placed nine_arrays empty (task Cms 3 all 32) 5
+    ≡ Ok (place 0 (block 0 5) ∷ place 1 (block 0 5) ∷ place 2 (block 0 5) ∷ [])
 unfolding placed open_arrays places_for groups_ended keys_for pair_for are_disjoint mask_bytes_of free_block
 three_rows = refl
 
 -- rows of SuMax-Sum stand in different groups, of which there are three
-a_row_a_group : placed nine_arrays empty (task SumaxSum 3 all 32) 5 ≡ Ok (place 0 (block 0 5) ∷ place 3 (block 0 5) ∷ place 6 (block 0 5) ∷ [])
+a_row_a_group : placed nine_arrays empty (task SumaxSum 3 all 32) 5
+    ≡ Ok (place 0 (block 0 5) ∷ place 3 (block 0 5) ∷ place 6 (block 0 5) ∷ [])
 unfolding placed open_arrays places_for groups_ended keys_for pair_for are_disjoint mask_bytes_of free_block
 a_row_a_group = refl
 
@@ -159,7 +161,8 @@ unfolding free_block
 no_single_register = refl
 
 -- of two that are full the first
-first_of_two : first_full (pool 0 5 [] ∷ pool 1 5 (block 0 5 ∷ []) ∷ pool 2 5 (block 0 5 ∷ []) ∷ []) 5 (0 ∷ 1 ∷ 2 ∷ []) ≡ Some 1
+first_of_two : first_full (pool 0 5 [] ∷ pool 1 5 (block 0 5 ∷ []) ∷ pool 2 5 (block 0 5 ∷ []) ∷ []) 5
+    (0 ∷ 1 ∷ 2 ∷ []) ≡ Some 1
 unfolding free_block
 first_of_two = refl
 

@@ -1,3 +1,4 @@
-pub mod Sights
+pub mod Laws
 pub mod Placement
+pub mod Sights
 pub mod Steps

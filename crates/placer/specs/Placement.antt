@@ -1,5 +1,5 @@
 -- The placement rule: where the rows of a new task go, or how many arrays there are too few.
-use Rattle.std.specs.Prelude.{◌≡◌, ℕ, ◌==◌, ◌&&◌, Bool, not, nat_lt, is_some, if◌then◌else◌, List, [], ◌∷◌, length, map, take, filter, position, slice_index_or, Option, None, Some, Result, Ok, Err}
+use Rattle.std.specs.Prelude.{ℕ, ◌==◌, ◌&&◌, Bool, not, nat_lt, is_some, if◌then◌else◌, List, [], ◌∷◌, length, map, take, filter, position, slice_index_or, Option, None, Some, Result, Ok, Err}
 use Rattle.std.specs.List.{filter_map, range_with_len}
 use Rattle.addr_translate.specs.Blocks.{Block}
 use Rattle.addr_translate.specs.Geometry.{Geometry, array_count, group_number}
@@ -13,7 +13,7 @@ use Rattle.sketch_defs.specs.Tasks.{Sketch}
 use Rattle.placer.specs.declared.places.Place.{Place}
 use Rattle.placer.specs.declared.places.Refusal.{Refusal}
 use Rattle.placer.specs.declared.places.Refusal.TheVariants.{NoUnit, NoPartition}
-use Rattle.placer.specs.Sights.{Sight, rules_at, units_at, taken_at, region_in, region_for}
+use Rattle.placer.specs.Sights.{Sight, rules_at, units_at, region_in, region_for}
 
 -- what tables, units and pools show
 abbrev pub sight_in : List EntryTable → List (List (Option UsedUnit)) → List PoolState → Sight

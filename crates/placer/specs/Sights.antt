@@ -1,5 +1,5 @@
 -- What a placement looks at of a switch, and the sizes that its arrays have.
-use Rattle.std.specs.Prelude.{◌≡◌, ℕ, ◌^◌, ◌-◌, ◌==◌, ◌&&◌, Bool, nat_le, min, if◌then◌else◌, List, [], map, slice_index_or, Option, None}
+use Rattle.std.specs.Prelude.{ℕ, ◌^◌, ◌-◌, ◌==◌, ◌&&◌, Bool, nat_le, min, if◌then◌else◌, List, [], map, slice_index_or, Option, None}
 use Rattle.std.specs.List.{find, fold, range_with_len}
 use Rattle.addr_translate.specs.Blocks.{Block}
 use Rattle.addr_translate.specs.Geometry.{Geometry, bits_of, greatest_bits, least_bits_of, group_number}

@@ -1,5 +1,5 @@
 -- How the code counts arrays: one at a time, no further than to the number of rows.
-use Rattle.std.specs.Prelude.{ℕ, ◌==◌, ◌&&◌, Bool, true, false, not, nat_lt, if◌then◌else◌, List, [], ◌∷◌, ◌++◌, length, take, Option, None, Some, Result, Ok, Err}
+use Rattle.std.specs.Prelude.{ℕ, ◌==◌, ◌&&◌, Bool, true, false, nat_lt, if◌then◌else◌, List, [], ◌∷◌, ◌++◌, length, take, Option, None, Some, Result, Ok, Err}
 use Rattle.std.specs.List.{list_any}
 use Rattle.sketch_defs.specs.declared.kinds.Kind.{Kind}
 use Rattle.sketch_defs.specs.declared.kinds.Kind.TheVariants.{Cms, SumaxSum, SumaxMax, Bloom, Mrac, Hll, FlagOr, FlagAnd}
@@ -25,7 +25,8 @@ is_there group x xs = list_any (λ y. group x == group y) xs
 -- with one more, where there is one, it counts, and there are fewer than most
 unfoldable pub with_one : {X : Type 0} → ℕ → Kind → (X → ℕ) → Option X → List X → List X
 with_one most kind group None xs = xs
-with_one most kind group (Some x) xs = if is_chained kind && is_there group x xs then xs else take most (xs ++ x ∷ [])
+with_one most kind group (Some x) xs = if is_chained kind && is_there group x xs then xs else take most
+    (xs ++ x ∷ [])
 
 -- the places of so many rows, or how many of them there are too few
 abbrev pub judged : ℕ → List ℕ → List Place → Result (List Place) Refusal

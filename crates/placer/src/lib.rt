@@ -1,6 +1,7 @@
 //! Where the rows of a task go on a switch.
 #![tactic(auto)]
 
+pub mod laws;
 mod places;
 mod planning;
 mod resizing;

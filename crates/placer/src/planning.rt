@@ -1,9 +1,8 @@
 //! The arrays on which a new task's rows go.
-ghost use Rattle.std.specs.Prelude.{◌≡◌, ◌≢◌, ◌<◌, ◌≤◌, ◌==◌, ℕ, All, List, [], ◌∷◌, ◌++◌, IfSome, None, Some, IsSome, if◌then◌else◌, length, take};
+ghost use Rattle.std.specs.Prelude.{◌≡◌, ◌<◌, ◌≤◌, ◌==◌, ℕ, All, [], ◌∷◌, ◌++◌, IfSome, None, Some, IsSome, if◌then◌else◌, length, take};
 ghost use Rattle.std.specs.List.{list_any};
 ghost use Rattle.addr_translate.specs.Geometry.{array_count, bits_of, group_number};
 ghost use Rattle.group_keys.specs.Units.{keys_for};
-ghost use Rattle.key_mask.specs.Masks.{no_lengths};
 ghost use Rattle.match_table.specs.Tables.{admits};
 ghost use Rattle.placer.specs.Sights.{bits_for};
 ghost use Rattle.placer.specs.Placement.{place_of, placed, pool_at, sight_in};
@@ -146,7 +145,9 @@ fn has_place(places: &[Place], shape: &Shape, group: u32) -> bool
     requires { All (λ other. other.array < array_count shape.now) places.now }
     ensures { result ≡ list_any (λ other. group == group_number shape.now other.array) places.now }
 {
-    places.iter().any(|other| group == shape.group_of(other.array))
+    places
+        .iter()
+        .any(|other| group == shape.group_of(other.array))
 }
 
 /// Appends an item where there are fewer than so many.
@@ -161,7 +162,11 @@ fn put<T: Default + Drop>(items: &mut ArrayVec<T, 4>, most: u32, item: T)
 }
 
 /// The places, or how many arrays there are too few for so many rows.
-fn judged(need: u32, arrays: &ArrayVec<u32, 4>, places: ArrayVec<Place, 4>) -> Result<Placement, Refusal>
+fn judged(
+    need: u32,
+    arrays: &ArrayVec<u32, 4>,
+    places: ArrayVec<Place, 4>,
+) -> Result<Placement, Refusal>
     ensures { result ≡ judged need arrays.now.items places.items }
 {
     let have = arrays.len() as u32;
@@ -174,3 +179,6 @@ fn judged(need: u32, arrays: &ArrayVec<u32, 4>, places: ArrayVec<Place, 4>) -> R
     }
     Ok(Placement { places })
 }
+
+#[cfg(test)]
+mod tests;

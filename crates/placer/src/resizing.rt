@@ -1,6 +1,6 @@
 //! Whether rows can move to another size on the arrays on which they stand.
-ghost use Rattle.std.specs.Prelude.{◌≡◌, ◌≢◌, ◌<◌, ◌≤◌, All, IfSome, MatchResult, None, Some, length, not, is_some};
-ghost use Rattle.std.specs.List.{AllPairs, position};
+ghost use Rattle.std.specs.Prelude.{◌≡◌, ◌≢◌, ◌<◌, ◌≤◌, All, IfSome, MatchResult, None, Some, length};
+ghost use Rattle.std.specs.List.{AllPairs};
 ghost use Rattle.partition_pool.specs.Pools.{least_bits};
 ghost use Rattle.placer.specs.Sights.{region_in};
 ghost use Rattle.placer.specs.Placement.{first_full, is_full};
@@ -51,5 +51,49 @@ pub(crate) fn free_in(pool: &Pool, bits: u32) -> Option<Region>
         pool.find(bits)
     } else {
         None
+    }
+}
+
+#[cfg(test)]
+mod tests {
+    use super::plan_resize;
+    use crate::places::NoRoom;
+    use partition_pool::Pool;
+    use std::test::Fail;
+
+    // arrays of 64, 32 and 32 registers: the smallest partition of the first has 2
+    #[test]
+    fn least_row_without_room(rt: HostRuntime) -> Result<(), Fail> {
+        let one = Pool::new(rt.alloc(), 0, 6, 5)?;
+        let Ok(two) = Pool::new(rt.alloc(), 1, 5, 5) else {
+            one.close();
+            return Err(Fail::new("memory"));
+        };
+        let Ok(three) = Pool::new(rt.alloc(), 2, 5, 5) else {
+            one.close();
+            two.close();
+            return Err(Fail::new("memory"));
+        };
+        let pools = [one, two, three];
+        let found = [
+            plan_resize(&pools, &[0, 1, 2], 5),
+            plan_resize(&pools, &[0, 1, 2], 6),
+            plan_resize(&pools, &[1, 2], 6),
+            plan_resize(&pools, &[1, 2, 0], 0),
+            plan_resize(&pools, &[0], 20),
+        ];
+        let [one, two, three] = pools;
+        one.close();
+        two.close();
+        three.close();
+        let told = [
+            Ok(()),
+            Err(NoRoom { row: 1 }),
+            Err(NoRoom { row: 0 }),
+            Err(NoRoom { row: 2 }),
+            Err(NoRoom { row: 0 }),
+        ];
+        assert_eq!(rt; found, told);
+        Ok(())
     }
 }

@@ -72,5 +72,55 @@ fn groups_of(shape: &Shape) -> &[GroupShape]
 fn least_bits_in(groups: &[GroupShape], split: u32) -> u32
     ensures { result ≡ fold min 20 (map (λ g. g.bits - split) groups.now) }
 {
-    groups.iter().map(|group| group.bits.saturating_sub(split)).fold(20, u32::min)
+    groups
+        .iter()
+        .map(|group| group.bits.saturating_sub(split))
+        .fold(20, u32::min)
+}
+
+#[cfg(test)]
+mod tests {
+    use super::{least_bits_in, size_bits};
+    use addr_translate::{GroupShape, Shape};
+    use sketch_defs::Kind;
+
+    const SMALL: GroupShape = GroupShape {
+        cmus: 1,
+        units: 1,
+        bits: 5,
+    };
+
+    const LARGER: GroupShape = GroupShape {
+        cmus: 1,
+        units: 1,
+        bits: 6,
+    };
+
+    const LARGEST: GroupShape = GroupShape {
+        cmus: 1,
+        units: 1,
+        bits: 20,
+    };
+
+    #[test]
+    fn sizes_of_two_shapes(rt: HostRuntime) {
+        let two = Shape::of(&[SMALL, LARGER], 5);
+        let fine = Shape::equal(1, LARGEST, 10);
+        let rows = [
+            (two, Kind::Cms, 1, Some(0)),
+            (two, Kind::Cms, 64, Some(6)),
+            (two, Kind::Cms, 128, None),
+            (two, Kind::Cms, 3, None),
+            (two, Kind::Cms, 0, None),
+            (two, Kind::Hll, 8, None),
+            (two, Kind::Hll, 16, Some(4)),
+            (fine, Kind::Cms, 512, None),
+            (fine, Kind::Cms, 1024, Some(10)),
+            (fine, Kind::Cms, 1_048_576, Some(20)),
+        ];
+        for (shape, kind, size, told) in rows {
+            assert_eq!(rt; size_bits(shape, kind, size), told);
+        }
+        assert_eq!(rt; least_bits_in(&[LARGEST, LARGER], 10), 0);
+    }
 }

@@ -32,7 +32,13 @@ use Rattle.switch_model.specs.Records.{Past, Part, Row, UnitMask, Record, Outlin
 use Rattle.switch_model.specs.Sights.{Spot, GroupUse, before_of, all_spots, rules_on, row_uses, uses_by, all_uses, units_on, group_uses}
 use Rattle.switch_model.specs.Soundness.{IsRow, IsTask, GiveKey, Sound}
 use Rattle.switch_model.specs.Packets.{Stand, live_stand, live_stands, frozen_stand, frozen_stands, past_stands, stands_by, all_stands, cells_at, Layout, takes_on, call_of}
-use Rattle.switch_model.proofs.ListLemmas.{all_front, all_back, all_unflat}
+use Rattle.task_filters.specs.Filters.{passes, are_disjoint}
+use Rattle.match_table.specs.Tables.{takes}
+use Rattle.std.proofs.lemmas.Bool.{eqb-true}
+use Rattle.std.proofs.lemmas.List.Elements.{filter_passes}
+use Rattle.std.proofs.lemmas.List.Kept.{AllPairs-filter}
+use Rattle.switch_model.specs.Soundness.{MatchNone}
+use Rattle.switch_model.proofs.ListLemmas.{pairs_map, pairs_known, all_front, all_back, all_unflat}
 use Rattle.switch_model.proofs.StandLemmas.{is_live, spot_by, stands_enter}
 use Rattle.switch_model.proofs.CallLemmas.{no_two}
 use Rattle.switch_model.proofs.SightLemmas.{HasMask, masks_known, unit_seen}
@@ -329,3 +335,26 @@ hash_given hash_key vector key units (Pair one two) gives =
 pub task_hash : (hash_key vector : List ℕ) (task : Sketch) → hash_of hash_key (and_bytes vector (mask_bytes_of task.key)) ≡ key_hash hash_key task vector
 unfolding key_hash
 task_hash hash_key vector task = refl
+
+-- ---- which entry a packet finds
+
+-- a row takes a packet where it stands on the array and its entry takes it
+pub takes_by_entry : (packet : Packet) (array : ℕ) (s : Stand) → takes_on packet array s ≡ (stands_on array s && takes packet.vec (entry_by s))
+takes_by_entry packet array s = by s.live where
+  by : (live : Bool) → (live && (s.array == array && passes s.task.filter packet.vec)) ≡ ((live && s.array == array) && passes s.task.filter packet.vec)
+  by true = refl
+  by false = refl
+
+rules_pairs : (array : ℕ) (spots : List Spot) → AllPairs MatchNone spots → AllPairs (λ (one two : Entry). are_disjoint one.filter two.filter ≡ true) (rules_on spots array)
+rules_pairs array spots pairs =
+    let on : List Spot = filter (λ (s : Spot). s.array == array) spots in
+    let Apart : Entry → Entry → Type 0 = λ one two. are_disjoint one.filter two.filter ≡ true in
+    pairs_map Apart (λ (s : Spot). s.entry) on
+    (pairs_known (λ (s : Spot). (s.array == array) ≡ true) MatchNone (λ (s t : Spot). Apart s.entry t.entry)
+    (λ s t one two apart. apart (eqb-true s.array array one ∙ sym (eqb-true t.array array two))) on
+    (filter_passes (λ (s : Spot). s.array == array) spots) (AllPairs-filter MatchNone (λ (s : Spot). s.array == array) spots pairs))
+
+-- the filters of an array's entries match no vector in common
+pub rules_disjoint : (geometry : Geometry) (all : List Outline) (array : ℕ) → Sound geometry all
+    → AllPairs (λ (one two : Entry). are_disjoint one.filter two.filter ≡ true) (rules_on (all_spots all) array)
+rules_disjoint geometry all array sound = rules_pairs array (all_spots all) sound.filters

@@ -1,4 +1,4 @@
-use Rattle.std.proofs.Common.{◌<◌, ◌≤◌, ◌^◌, ℕ, length, arith, get_or}
+use Rattle.std.proofs.Common.{◌≤◌, ◌^◌, length, arith}
 use Rattle.std.proofs.lemmas.List.{get_or_default}
 use Rattle.placer.proofs.LookLemmas.{few_distinct}
 use Rattle.placer.proofs.resizing.plan_resize.Goals as goal
