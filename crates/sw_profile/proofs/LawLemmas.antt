@@ -47,9 +47,9 @@ found_limits key least most (Some found) h = within_limits key least most (as_in
 found_limits key least most None h = let wrong : ⊥ = cc in absurd wrong
 
 -- a number without a fault is within its limits
-limits : (key : ProfileKey) (least most : ℕ) (members : Members) → number key least most members ≡ None → IsBetween least most (number_at key members)
+limits : (key : ProfileKey) (least most : ℕ) (entries : Members) → number key least most entries ≡ None → IsBetween least most (number_at key entries)
 unfolding number number_at
-limits key least most members h = found_limits key least most (member_at key members) h
+limits key least most entries h = found_limits key least most (member_at key entries) h
 
 wider_fault : (key : ProfileKey) (least most more : ℕ) (o : Option ℤ) → most ≤ more → number_fault key least most o ≡ None → number_fault key least more o ≡ None
 wider_fault key least most more (Some (pos n)) up h =
@@ -65,9 +65,9 @@ wider_found key least most more (Some found) up h = wider_fault key least most m
 wider_found key least most more None up h = let wrong : ⊥ = cc in absurd wrong
 
 -- a number without a fault has none where more is allowed
-wider : (key : ProfileKey) (least most more : ℕ) (members : Members) → most ≤ more → number key least most members ≡ None → number key least more members ≡ None
+wider : (key : ProfileKey) (least most more : ℕ) (entries : Members) → most ≤ more → number key least most entries ≡ None → number key least more entries ≡ None
 unfolding number
-wider key least most more members up h = wider_found key least most more (member_at key members) up h
+wider key least most more entries up h = wider_found key least most more (member_at key entries) up h
 
 -- the same stands at a key of two tables
 same_fault : (key : ProfileKey) (least most : ℕ) (one two : Members) → Agree key one two → number key least most one ≡ number key least most two
@@ -79,13 +79,13 @@ unfolding number_at
 same_number key one two same = rw same refl
 
 -- an integer that is written there
-written : (key : ProfileKey) (n : ℕ) (members : Members) → member_at key members ≡ Some (integer (pos n)) → number_at key members ≡ n
+written : (key : ProfileKey) (n : ℕ) (entries : Members) → member_at key entries ≡ Some (integer (pos n)) → number_at key entries ≡ n
 unfolding number_at
-written key n members is = rw is refl
+written key n entries is = rw is refl
 
-written_fault : (key : ProfileKey) (least most n : ℕ) (members : Members) → member_at key members ≡ Some (integer (pos n)) → least ≤ n → n ≤ most → number key least most members ≡ None
+written_fault : (key : ProfileKey) (least most n : ℕ) (entries : Members) → member_at key entries ≡ Some (integer (pos n)) → least ≤ n → n ≤ most → number key least most entries ≡ None
 unfolding number
-written_fault key least most n members is low high = rw (is, le-leb least n low, le-leb n most high) refl
+written_fault key least most n entries is low high = rw (is, le-leb least n low, le-leb n most high) refl
 
 -- ---- the tables of groups
 

@@ -1,7 +1,8 @@
 -- The keys of a profile in their order, what has to stand at each, and the first fault of what does.
-use Rattle.std.specs.Prelude.{ℕ, suc, ◌&&◌, Bool, true, false, not, nat_le, if◌then◌else◌, List, [], ◌∷◌, ◌++◌, Option, None, Some, is_some, is_ok, option_and_then, ℤ, pos, negsuc}
+use Rattle.std.specs.Prelude.{ℕ, suc, ◌&&◌, ◌==◌, Bool, true, false, not, nat_le, if◌then◌else◌, List, [], ◌∷◌, ◌++◌, length, Option, None, Some, is_some, option_and_then, ℤ, pos, negsuc}
+use Rattle.std.specs.List.{list_all}
 use Rattle.std.specs.Option.{option_or}
-use Rattle.hex.specs.Hex.{decode_sized}
+use Rattle.hex.specs.Hex.{is_hex_digit}
 use Rattle.toml.specs.Data.{Data, Items, no_items, item, Members, get_member, as_integer, as_str, as_array, as_table}
 use Rattle.sw_profile.specs.declared.faults.ProfileKey.{ProfileKey}
 use Rattle.sw_profile.specs.declared.faults.ProfileKey.TheVariants as keys
@@ -15,12 +16,12 @@ Demand = Members → Option ProfileFault
 
 -- the first fault, one demand after another
 abbrev pub first_fault : List Demand → Demand
-first_fault [] members = None
-first_fault (demand ∷ demands) members = option_or (demand members) (first_fault demands members)
+first_fault [] entries = None
+first_fault (demand ∷ demands) entries = option_or (demand entries) (first_fault demands entries)
 
 -- what stands at a key
 abbrev pub member_at : ProfileKey → Members → Option Data
-member_at key members = get_member (name_of key) members
+member_at key entries = get_member (name_of key) entries
 
 -- what stands at a key that may not be missing
 abbrev pub needed : ProfileKey → (Data → Option ProfileFault) → Option Data → Option ProfileFault
@@ -39,17 +40,17 @@ number_fault key least most (Some z) = if is_within least most z then None else 
 
 -- an integer from least to most
 unfoldable pub number : ProfileKey → ℕ → ℕ → Demand
-number key least most members = needed key (λ found. number_fault key least most (as_integer found)) (member_at key members)
+number key least most entries = needed key (λ found. number_fault key least most (as_integer found)) (member_at key entries)
 
 -- ---- the hash key
 
 abbrev pub digits_fault : Option (List ℕ) → Option ProfileFault
 digits_fault None = Some (faults.WrongType keys.HashKey)
-digits_fault (Some digits) = if is_ok (decode_sized digits 52) then None else Some faults.BadHashKey
+digits_fault (Some digits) = if length digits == 104 && list_all is_hex_digit digits then None else Some faults.BadHashKey
 
 -- a string of 104 hexadecimal digits of either case; it may be missing
 unfoldable pub hash_digits : Demand
-hash_digits members = option_and_then (λ found. digits_fault (as_str found)) (member_at keys.HashKey members)
+hash_digits entries = option_and_then (λ found. digits_fault (as_str found)) (member_at keys.HashKey entries)
 
 -- ---- groups
 
@@ -59,7 +60,7 @@ group_keys most_bits = number keys.Cmus 1 4 ∷ number keys.Units 1 4 ∷ number
 
 abbrev pub table_fault : Option Members → Option ProfileFault
 table_fault None = Some (faults.WrongType keys.Group)
-table_fault (Some members) = first_fault (group_keys 20) members
+table_fault (Some entries) = first_fault (group_keys 20) entries
 
 abbrev pub are_tables : Items → Bool
 are_tables no_items = true
@@ -87,7 +88,7 @@ array_fault (Some items) = items_fault items
 
 -- an array of 1 to 12 tables, each of a group
 unfoldable pub group_tables : Demand
-group_tables members = needed keys.Group (λ found. array_fault (as_array found)) (member_at keys.Group members)
+group_tables entries = needed keys.Group (λ found. array_fault (as_array found)) (member_at keys.Group entries)
 
 -- ---- the keys of each version
 

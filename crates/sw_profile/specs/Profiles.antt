@@ -30,7 +30,7 @@ natural (Some (pos n)) = n
 natural other = 0
 
 unfoldable pub number_at : ProfileKey → Members → ℕ
-number_at key members = option_map_or (λ found. natural (as_integer found)) (member_at key members) 0
+number_at key entries = option_map_or (λ found. natural (as_integer found)) (member_at key entries) 0
 
 -- two digits a byte
 abbrev pub bytes_by : Option (List ℕ) → List ℕ
@@ -38,10 +38,10 @@ bytes_by None = []
 bytes_by (Some digits) = unwrap_or (result_ok (decode_sized digits 52)) []
 
 unfoldable pub hash_key_at : Members → List ℕ
-hash_key_at members = option_map_or (λ found. bytes_by (as_str found)) (member_at keys.HashKey members) standard_key
+hash_key_at entries = option_map_or (λ found. bytes_by (as_str found)) (member_at keys.HashKey entries) standard_key
 
 abbrev pub group_at : Members → GroupShape
-group_at members = record { cmus = number_at keys.Cmus members; units = number_at keys.Units members; bits = number_at keys.LogRegisters members }
+group_at entries = record { cmus = number_at keys.Cmus entries; units = number_at keys.Units entries; bits = number_at keys.LogRegisters entries }
 
 abbrev pub group_in : Data → GroupShape
 group_in found = option_map_or group_at (as_table found) no_group
@@ -54,15 +54,15 @@ abbrev pub groups_in : Data → List GroupShape
 groups_in found = option_map_or each_group (as_array found) []
 
 unfoldable pub groups_at : Members → List GroupShape
-groups_at members = option_map_or groups_in (member_at keys.Group members) []
+groups_at entries = option_map_or groups_in (member_at keys.Group entries) []
 
 -- version 1: equal groups
 abbrev pub equal_profile : Members → Profile
-equal_profile members = record { shape = equal_geometry (number_at keys.Groups members) (group_at members) 5; key = hash_key_at members }
+equal_profile entries = record { shape = equal_geometry (number_at keys.Groups entries) (group_at entries) 5; key = hash_key_at entries }
 
 -- version 2: groups with tables of their own
 abbrev pub grouped_profile : Members → Profile
-grouped_profile members = record { shape = record { groups = groups_at members; split = number_at keys.LogBlocks members }; key = hash_key_at members }
+grouped_profile entries = record { shape = record { groups = groups_at entries; split = number_at keys.LogBlocks entries }; key = hash_key_at entries }
 
 -- ---- tables and texts
 
@@ -71,11 +71,11 @@ version_keys version = if version == 1 then equal_keys else grouped_keys
 
 -- the first fault of a document's table
 abbrev pub fault_of : Members → Option ProfileFault
-fault_of members = option_or (number keys.Version 1 2 members) (first_fault (version_keys (number_at keys.Version members)) members)
+fault_of entries = option_or (number keys.Version 1 2 entries) (first_fault (version_keys (number_at keys.Version entries)) entries)
 
 -- what a table without a fault says
 abbrev pub said_by : Members → Profile
-said_by members = if number_at keys.Version members == 1 then equal_profile members else grouped_profile members
+said_by entries = if number_at keys.Version entries == 1 then equal_profile entries else grouped_profile entries
 
 abbrev pub judged : Option ProfileFault → Profile → Result Profile ProfileFault
 judged None profile = Ok profile
@@ -83,7 +83,7 @@ judged (Some fault) profile = Err fault
 
 -- the profile of a document's table, or its first fault
 unfoldable pub profile_of : Members → Result Profile ProfileFault
-profile_of members = judged (fault_of members) (said_by members)
+profile_of entries = judged (fault_of entries) (said_by entries)
 
 -- the table of a text, of at most 65,536 bytes
 unfoldable pub table_in : List ℕ → Result Members ProfileFault
@@ -93,7 +93,7 @@ table_in text =
     else Err faults.NotToml)
 
 abbrev pub profile_by : Result Members ProfileFault → Result Profile ProfileFault
-profile_by (Ok members) = profile_of members
+profile_by (Ok entries) = profile_of entries
 profile_by (Err fault) = Err fault
 
 -- the profile of a text, or its first fault

@@ -104,12 +104,22 @@ impl ProfileFault {
 }
 
 impl fmt::Display for ProfileKey {
+    ghost use Rattle.std.specs.Prelude.{Some};
+    ghost use Rattle.sw_profile.specs.Words.{name_of};
+
+    ghost output = { λ key. Some (name_of key) };
+
     fn fmt<W: fmt::Write>(&self, f: &mut fmt::Formatter<W>) -> fmt::Result {
         f.write_str(self.name())
     }
 }
 
 impl fmt::Display for ProfileFault {
+    ghost use Rattle.std.specs.Prelude.{Some};
+    ghost use Rattle.sw_profile.specs.Words.{fault_text};
+
+    ghost output = { λ fault. Some (fault_text fault) };
+
     fn fmt<W: fmt::Write>(&self, f: &mut fmt::Formatter<W>) -> fmt::Result {
         f.write_str(self.words())?;
         match self.key() {

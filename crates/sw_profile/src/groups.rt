@@ -30,12 +30,13 @@ pub(crate) fn grouped_profile(table: &Table) -> Result<Profile, ProfileFault>
     Ok(Profile { shape, key })
 }
 
-/// The shape of the groups at a key.
+/// The shape of the groups that a value says.
 fn shape_in(value: &Value, split: u32) -> Result<Shape, ProfileFault>
     requires least { 5 ≤ split }
     requires most { split ≤ 10 }
     ensures fault { result_err result ≡ array_fault (as_array (view value.now)) }
-    ensures value { IfOk result (λ shape. shape ≡ record { groups = groups_in (view value.now); split = split }) }
+    ensures value { IfOk result (λ shape.
+        shape ≡ record { groups = groups_in (view value.now); split = split }) }
 {
     match value.as_array() {
         Some(array) => shape_among(array, split),
@@ -51,7 +52,8 @@ fn shape_among(array: &Vec<Value>, split: u32) -> Result<Shape, ProfileFault>
     requires least { 5 ≤ split }
     requires most { split ≤ 10 }
     ensures fault { result_err result ≡ items_fault (array_view array.now) }
-    ensures value { IfOk result (λ shape. shape ≡ record { groups = each_group (array_view array.now); split = split }) }
+    ensures value { IfOk result (λ shape.
+        shape ≡ record { groups = each_group (array_view array.now); split = split }) }
 {
     let key = ProfileKey::Group;
     if !are_tables(array) {
@@ -80,7 +82,8 @@ fn shape_of(array: &Vec<Value>, split: u32) -> Result<Shape, ProfileFault>
     requires some { 1 ≤ vec_len array.now }
     requires few { vec_len array.now ≤ 12 }
     ensures fault { result_err result ≡ each_fault (array_view array.now) }
-    ensures value { IfOk result (λ shape. shape ≡ record { groups = each_group (array_view array.now); split = split }) }
+    ensures value { IfOk result (λ shape.
+        shape ≡ record { groups = each_group (array_view array.now); split = split }) }
 {
     let mut groups = [GroupShape::UNUSED; MOST_GROUPS];
     let mut count = 0;

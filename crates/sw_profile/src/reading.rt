@@ -20,11 +20,11 @@ use toml::{Table, Value};
 /// How many bytes a profile has at most.
 const MOST_BYTES: usize = 65_536;
 
-/// Reads a profile of version 1 or 2. The text is one document of TOML.
+/// Reads a profile of version 1 or 2: one TOML document of at most 65,536 bytes.
 #[tactic(auto, using(crate::proofs::Texts::utf8), unfolding(crate::specs::Profiles::profile_in, crate::specs::Profiles::table_in))]
 pub fn read_profile(alloc: Global, text: &[u8]) -> Result<Profile, ProfileFail>
     ensures answer { Gives result (profile_in text.now) }
-    // that memory ran out is said of no text that needs none
+    // want of memory is answered only where a text is read for its table
     ensures memory { result ≡ Err fails.Memory → IsReadable text.now }
 {
     if text.len() > MOST_BYTES {
@@ -105,6 +105,7 @@ pub(crate) fn hash_key_at(table: &Table) -> Result<HashKey, ProfileFault>
 }
 
 /// A hash key by its digits.
+#[tactic(auto, using(crate::proofs::DigitLemmas::digits_of_key))]
 fn key_by_digits(digits: &str) -> Result<HashKey, ProfileFault>
     ensures fault { result_err result ≡ digits_fault (Some digits.now) }
     ensures value { IfOk result (λ key. key ≡ bytes_by (Some digits.now)) }

@@ -62,7 +62,8 @@ const FAULTS: [(&[u8], &str); 17] = [
         "wrong type group",
     ),
     (
-        b"version = 2\nlog_blocks = 10\n[[group]]\ncmus = 1\nunits = 4\nlog_registers = 20\n[[group]]\ncmus = 1\nunits = 5\n",
+        b"version = 2\nlog_blocks = 10\n[[group]]\ncmus = 1\nunits = 4\nlog_registers = 20\n\
+        [[group]]\ncmus = 1\nunits = 5\n",
         "out of range units",
     ),
 ];
@@ -76,16 +77,26 @@ fn faults(rt: HostRuntime) -> Result<(), Fail> {
 }
 
 /// The default key, with digits of both cases.
-const KEYED: &[u8] =
-    b"version = 1\ngroups = 1\ncmus = 4\nunits = 2\nlog_registers = 16\nhash_key = \"6D5A56DA255B0EC24167253D43A38FB0D0CA2BCBAE7B30B477CB2DA38030F20C6a42b73bbeac01fa6d5a56da255b0ec24167253D\"\n";
+const KEYED: &[u8] = b"version = 1\ngroups = 1\ncmus = 4\nunits = 2\nlog_registers = 16\n\
+    hash_key = \"6D5A56DA255B0EC24167253D43A38FB0D0CA2BCBAE7B30B477CB\
+    2da38030f20c6a42b73bbeac01fa6d5a56da255b0ec24167253D\"\n";
 
 /// One digit fewer.
-const SHORT_KEY: &[u8] =
-    b"version = 1\ngroups = 1\ncmus = 4\nunits = 2\nlog_registers = 16\nhash_key = \"6D5A56DA255B0EC24167253D43A38FB0D0CA2BCBAE7B30B477CB2DA38030F20C6a42b73bbeac01fa6d5a56da255b0ec24167253\"\n";
+const SHORT_KEY: &[u8] = b"version = 1\ngroups = 1\ncmus = 4\nunits = 2\nlog_registers = 16\n\
+    hash_key = \"6D5A56DA255B0EC24167253D43A38FB0D0CA2BCBAE7B30B477CB\
+    2da38030f20c6a42b73bbeac01fa6d5a56da255b0ec24167253\"\n";
 
-/// A digit that is none.
-const ODD_KEY: &[u8] =
-    b"version = 1\ngroups = 1\ncmus = 4\nunits = 2\nlog_registers = 16\nhash_key = \"6D5A56DA255B0EC24167253D43A38FB0D0CA2BCBAE7B30B477CB2DA38030F20C6a42b73bbeac01fa6d5a56da255b0ec24167253G\"\n";
+/// A letter that is no digit.
+const ODD_KEY: &[u8] = b"version = 1\ngroups = 1\ncmus = 4\nunits = 2\nlog_registers = 16\n\
+    hash_key = \"6D5A56DA255B0EC24167253D43A38FB0D0CA2BCBAE7B30B477CB\
+    2da38030f20c6a42b73bbeac01fa6d5a56da255b0ec24167253G\"\n";
+
+/// Two groups that differ, and a key that is all zeros but for its first byte.
+const GROUPED: &[u8] = b"version = 2\nlog_blocks = 10\nname = \"two groups\"\n\
+    hash_key = \"8000000000000000000000000000000000000000000000000000\
+    0000000000000000000000000000000000000000000000000000\"\n\n\
+    [[group]]\ncmus = 1\nunits = 1\nlog_registers = 5\n\n\
+    [[group]]\nlog_registers = 20\ncmus = 4\nunits = 2\n";
 
 #[test]
 fn hash_keys(rt: HostRuntime) -> Result<(), Fail> {
@@ -93,11 +104,6 @@ fn hash_keys(rt: HostRuntime) -> Result<(), Fail> {
     assert!(rt; keyed.key == standard());
     assert_eq!(rt; fault_in(rt.alloc(), SHORT_KEY)?.as_str(), "bad hash key");
     assert_eq!(rt; fault_in(rt.alloc(), ODD_KEY)?.as_str(), "bad hash key");
-    let zeros = profile_in(
-        rt.alloc(),
-        b"version = 1\ngroups = 1\ncmus = 1\nunits = 1\nlog_registers = 5\nhash_key = \"00000000000000000000000000000000000000000000000000000000000000000000000000000000000000000000000000000000\"\n",
-    )?;
-    assert!(rt; zeros.key.0 == [0; 52]);
     Ok(())
 }
 
@@ -122,20 +128,16 @@ fn profiles_of_both_versions(rt: HostRuntime) -> Result<(), Fail> {
         bits: 5,
     };
     let two = GroupShape {
-        cmus: 2,
-        units: 4,
+        cmus: 4,
+        units: 2,
         bits: 20,
     };
-    let own =
-        b"version = 2\nlog_blocks = 10\nname = \"two groups\"\n[[group]]\ncmus = 1\nunits = 1\nlog_registers = 5\n[[group]]\nlog_registers = 20\nunits = 4\ncmus = 2\n";
-    let want = Profile {
-        shape: Shape::of(&[one, two], 10),
-        key: standard(),
-    };
-    assert!(rt; profile_in(rt.alloc(), own)? == want);
+    let grouped = profile_in(rt.alloc(), GROUPED)?;
+    assert!(rt; grouped.shape == Shape::of(&[one, two], 10));
+    assert_eq!(rt; (grouped.key.0[0], grouped.key.0[51]), (128, 0));
 
-    let equal =
-        b"group = [{cmus = 1, units = 1, log_registers = 5}, {log_registers = 5, units = 1, cmus = 1}]\nlog_blocks = 5\nversion = 2\n";
+    let equal = b"group = [{cmus = 1, units = 1, log_registers = 5}, \
+        {log_registers = 5, units = 1, cmus = 1}]\nlog_blocks = 5\nversion = 2\n";
     let first = b"version = 1\ngroups = 2\ncmus = 1\nunits = 1\nlog_registers = 5\n";
     assert!(rt; profile_in(rt.alloc(), equal)? == profile_in(rt.alloc(), first)?);
     Ok(())
