@@ -7,3 +7,4 @@ pub mod EndLemmas
 pub mod GoLemmas
 pub mod ClauseLemmas
 pub mod IsolationLemmas
+pub mod Values

@@ -5,6 +5,8 @@ use Rattle.placer.specs.declared.places as places
 use Rattle.placer.specs.declared.places.Refusal.TheVariants.{NoUnit, NoPartition}
 use Rattle.switch_model.specs.Changes.{Refusal, Exists, BadMemory, Misplaced, Unknown, FrozenHeld, NoRoom, NoFrozen}
 use Rattle.switch_model.specs.Changes as model
+use Rattle.flymon_engine.specs.declared.change_lines.Reason.{Reason}
+use Rattle.flymon_engine.specs.declared.change_lines.Reason.TheVariants as reasons
 use Rattle.flymon_engine.specs.declared.work.Change.{Change}
 use Rattle.flymon_engine.specs.declared.work.Change.TheVariants.{Add, Resize, Remove, Release}
 
@@ -50,6 +52,17 @@ reason_words Unknown = codes "unknown"
 reason_words FrozenHeld = codes "frozen held"
 reason_words (NoRoom row) = codes "no room row " ++ decimal row
 reason_words NoFrozen = codes "nothing frozen"
+
+-- a reason, as the model of the switch has it
+abbrev pub refusal_of : Reason → Refusal
+refusal_of reasons.Exists = Exists
+refusal_of (reasons.BadMemory size) = BadMemory size
+refusal_of (reasons.NoUnit need have) = Misplaced (NoUnit need have)
+refusal_of (reasons.NoPartition need have) = Misplaced (NoPartition need have)
+refusal_of reasons.Unknown = Unknown
+refusal_of reasons.FrozenHeld = FrozenHeld
+refusal_of (reasons.NoRoom row) = NoRoom row
+refusal_of reasons.NoFrozen = NoFrozen
 
 -- `added NAME` and the like
 abbrev pub done_line : Change → List ℕ

@@ -3,6 +3,7 @@
 
 mod captures;
 mod carry;
+mod change_lines;
 pub mod laws;
 mod lines;
 mod machine;
