@@ -81,7 +81,7 @@ abbrev cut : List Command
 cut = commands.Add (task hot Cms 1 32) ∷ commands.Packets 2 ∷ commands.Run ∷ []
 
 cut_text : (run_on standard_profile (captured (1 ∷ 1 ∷ []) (Some (ShortRecord 164))) cut).text ≡ codes "added hot\npackets 2\n"
-unfolding going step passed judged changed placed open_arrays places_for bits_for free_block keys_for pair_for are_disjoint mask_bytes_of sight_of all_held all_spots all_uses join digits
+unfolding going step passed judged changed placed open_arrays places_for bits_for free_block keys_for pair_for are_disjoint mask_bytes_of sight_of all_held all_spots all_uses join digits groups_ended
 cut_text = refl
 
 cut_damage : damage_met serial_rules (beginning standard_profile (captured (1 ∷ 1 ∷ []) (Some (ShortRecord 164)))) (works_of cut) ≡ Some (ShortRecord 164)
