@@ -8,3 +8,4 @@ pub mod GoLemmas
 pub mod ClauseLemmas
 pub mod IsolationLemmas
 pub mod Values
+pub mod ShownLemmas
