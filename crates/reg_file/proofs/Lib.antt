@@ -1,3 +1,4 @@
+pub mod CallLemmas
 mod Places
 mod Values
 pub mod ReadLemmas

@@ -1,0 +1,36 @@
+mod StagePlans
+mod StageSeats
+mod StageFills
+mod StageLeases
+mod StageStarts
+mod Tasks
+mod Keys
+mod Places
+mod Pools
+mod Tables
+mod Settled
+mod Again
+mod Uses
+mod Served
+mod Counts
+mod Bounds
+pub mod BridgeFinds
+pub mod BridgeCalls
+pub mod BridgeLemmas
+pub mod ShownRows
+pub mod ShownLemmas
+pub mod BridgeChanges
+mod Enters
+mod Giving
+mod Adds
+mod Removed
+mod Resizes
+mod Refilled
+mod Added
+mod LookViews
+mod LookStarts
+pub mod BridgePipe
+pub mod ShownView
+mod ShownValues
+mod Resized
+mod Goes

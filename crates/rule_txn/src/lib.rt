@@ -1,0 +1,15 @@
+//! Tasks that are added, resized, removed and released while packets pass.
+#![tactic(auto)]
+
+mod faults;
+mod fills;
+mod laws;
+mod making;
+mod rows;
+mod seats;
+mod stage;
+mod switch;
+
+pub use faults::{AddFault, ReleaseFault, ResizeFault, StartFail, Unknown};
+pub use laws::{add_restored, one_call_an_array};
+pub use switch::Switch;
