@@ -6,5 +6,6 @@ pub mod FileLemmas
 pub mod EndLemmas
 pub mod GoLemmas
 pub mod ClauseLemmas
+pub mod DemoLemmas
 pub mod IsolationLemmas
 pub mod Values
