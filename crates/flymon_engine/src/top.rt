@@ -19,6 +19,7 @@ use crate::stop::{Refusal, Stop, ending, status_of};
 use crate::words::{Asked, Names, asked_of};
 use fm_io::{Files, Sink};
 use gen_capture::GenFiles;
+use gen_capture::laws::captures_are_whole;
 use reg_file::RegFile;
 use std::alloc::Global;
 
@@ -133,6 +134,8 @@ fn demo<M: Machine, R: RegFile, O: Sink>(
         script: "script",
         capture: "capture",
     };
+    // A law: no line of it is run.
+    captures_are_whole();
     let mut files = GenFiles::new(seed, count);
     replay::<GenFiles, M, R, O>(alloc, names, &mut files, regs, out)
 }
