@@ -8,4 +8,5 @@ pub mod GoLemmas
 pub mod ClauseLemmas
 pub mod DemoLemmas
 pub mod IsolationLemmas
+pub mod WordValues
 pub mod Values

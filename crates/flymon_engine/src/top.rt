@@ -134,7 +134,7 @@ fn demo<M: Machine, R: RegFile, O: Sink>(
         script: "script",
         capture: "capture",
     };
-    // A law: no line of it is run.
+    // A law, which runs nothing: the generated capture is whole.
     captures_are_whole();
     let mut files = GenFiles::new(seed, count);
     replay::<GenFiles, M, R, O>(alloc, names, &mut files, regs, out)
