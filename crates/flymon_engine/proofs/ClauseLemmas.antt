@@ -10,6 +10,8 @@ use Rattle.fm_io.specs.Slots.{Cursor}
 use Rattle.reg_file.specs.Registers.{Contents}
 use Rattle.capture_read.specs.declared.records.CaptureFault.{CaptureFault}
 use Rattle.sw_profile.specs.declared.profiles.Profile.{Profile}
+use Rattle.sw_profile.specs.Profiles.{standard_profile}
+use Rattle.gen_capture.specs.Captures.{capture_text}
 use Rattle.task_lang.specs.declared.commands.Command.{Command}
 use Rattle.flymon_engine.specs.declared.status.Status.{Status}
 use Rattle.flymon_engine.specs.declared.status.Status.TheVariants as statuses
@@ -22,7 +24,7 @@ use Rattle.flymon_engine.specs.declared.stop.Refusal.TheVariants as refusals
 use Rattle.flymon_engine.specs.declared.stop.Stop.{Stop}
 use Rattle.flymon_engine.specs.declared.stop.Stop.TheVariants.{Opening, Carrying}
 use Rattle.flymon_engine.specs.Opening.{StraysStay}
-use Rattle.flymon_engine.specs.Words.{Form, Wrong, Replay}
+use Rattle.flymon_engine.specs.Words.{Form, Wrong, Replay, Demo}
 use Rattle.flymon_engine.specs.Works.{works_of}
 use Rattle.flymon_engine.specs.Boards.{Board, Rules}
 use Rattle.flymon_engine.specs.Moves.{NoCalls}
@@ -30,14 +32,15 @@ use Rattle.flymon_engine.specs.Runs.{Run}
 use Rattle.flymon_engine.specs.Stops.{Ends}
 use Rattle.flymon_engine.specs.Worlds.{WhereTold}
 use Rattle.flymon_engine.specs.Going.{going, damage_met, GoesTo}
-use Rattle.flymon_engine.specs.Endings.{Seen, Carried, CarriesReplay, Carries, Promises, DidNothing, IsRefused, beginning, finished, status_of, status_of_refusal}
-use Rattle.flymon_engine.specs.Clauses.{HasOpened, HasBadProfile, HasBadScript, HasBadHeader, FailsInPlace, IsWhole, GoesAll, IsDamaged, HasShaped, FailsDevice, FailsByName, IsEarly}
+use Rattle.flymon_engine.specs.Endings.{Seen, FilesStay, DemoMayEnd, CarriesDemo, Carried, CarriesReplay, Carries, Promises, DidNothing, IsRefused, beginning, finished, status_of, status_of_refusal, status_of_halt}
+use Rattle.flymon_engine.specs.Clauses.{DemoGoes, IsOfDemo, LeavesFiles, HasOpened, HasBadProfile, HasBadScript, HasBadHeader, FailsInPlace, IsWhole, GoesAll, IsDamaged, HasShaped, FailsDevice, FailsByName, IsEarly}
 use Rattle.flymon_engine.proofs.GoLemmas.{agrees}
 
 -- the words are no form, and that is Usage
 refused_usage : (form : Form) (before after : Seen) → IsRefused form refusals.Usage before after → form ≡ Wrong
 refused_usage Wrong before after refused = refl
 refused_usage (Replay profile script capture) before after refused = absurd refused.texts
+refused_usage (Demo seed count) before after refused = absurd refused.1
 
 pub to_wrong : (rules : Rules) (lays : Board → Contents → Type 0) (form : Form) (before after : Seen) (ending : Result (Unit {0}) Stop)
     → status_of ending ≡ statuses.Usage → Promises rules lays form ending before after → form ≡ Wrong
@@ -65,6 +68,7 @@ pub to_bad_profile : (rules : Rules) (lays : Board → Contents → Type 0) (for
     → status_of ending ≡ statuses.BadProfile → Promises rules lays form ending before after → HasBadProfile form after.directory after.slots
 to_bad_profile rules lays Wrong before after (Err (Opening (refusals.Profile fault))) e promises = absurd (let bad = promises.refused.0 in cc)
 to_bad_profile rules lays (Replay profile script capture) before after (Err (Opening (refusals.Profile fault))) e promises = (fault, promises.refused.texts)
+to_bad_profile rules lays (Demo seed count) before after (Err (Opening (refusals.Profile fault))) e promises = absurd promises.refused.1
 to_bad_profile rules lays form before after (Ok x) e promises = absurd (let bad : statuses.Done ≡ statuses.BadProfile = e in cc)
 to_bad_profile rules lays form before after (Err (Opening refusals.Usage)) e promises = absurd (let bad : statuses.Usage ≡ statuses.BadProfile = e in cc)
 to_bad_profile rules lays form before after (Err (Opening (refusals.Script fault))) e promises = absurd (let bad : statuses.BadScript ≡ statuses.BadProfile = e in cc)
@@ -81,6 +85,7 @@ pub to_bad_script : (rules : Rules) (lays : Board → Contents → Type 0) (form
     → status_of ending ≡ statuses.BadScript → Promises rules lays form ending before after → HasBadScript form after.directory after.slots
 to_bad_script rules lays Wrong before after (Err (Opening (refusals.Script fault))) e promises = absurd (let bad = promises.refused.0 in cc)
 to_bad_script rules lays (Replay profile script capture) before after (Err (Opening (refusals.Script fault))) e promises = (fault, promises.refused.texts)
+to_bad_script rules lays (Demo seed count) before after (Err (Opening (refusals.Script fault))) e promises = absurd promises.refused.1
 to_bad_script rules lays form before after (Ok x) e promises = absurd (let bad : statuses.Done ≡ statuses.BadScript = e in cc)
 to_bad_script rules lays form before after (Err (Opening refusals.Usage)) e promises = absurd (let bad : statuses.Usage ≡ statuses.BadScript = e in cc)
 to_bad_script rules lays form before after (Err (Opening (refusals.Profile fault))) e promises = absurd (let bad : statuses.BadProfile ≡ statuses.BadScript = e in cc)
@@ -114,11 +119,47 @@ whole_told P Q None c step p = tt
 whole_told P Q (Some u) None step p = tt
 whole_told P Q (Some u) (Some d) step p = step u d p
 
+some_told : (P Q : Contents → Type 0) (c : Option Contents) → ((d : Contents) → P d → Q d) → IfSome c P → IfSome c Q
+some_told P Q None step p = tt
+some_told P Q (Some d) step p = step d p
+
+-- the whole script's end is the same wherever the reading stands
+moved_cursor : (rules : Rules) (lays : Board → Contents → Type 0) (profile : Profile) (commands : List Command) (damage : Option CaptureFault) (before after : Seen)
+    (cursor : Cursor) (cells : Contents) → IsWhole rules lays profile commands damage before after cursor cells
+    → IsWhole rules lays profile commands damage before after (record { bytes = cursor.bytes; at = 0 }) cells
+moved_cursor rules lays profile commands damage before after cursor cells whole = record {
+  left = whole.left;
+  opened = whole.opened;
+  met = whole.met;
+  text = whole.text;
+  operations = whole.operations;
+  registers = whole.registers;
+}
+
+-- a demo's end is its whole script's
+goes_demo : {T : Type 0} (rules : Rules) (lays : Board → Contents → Type 0) (seed count : ℕ) (damage : Option CaptureFault) (before after : Seen) (result : Result T Halt)
+    → ((at : ℕ) (start end : Run) (commands : List Command) → Ends rules at result start (works_of commands) end → GoesTo rules start (works_of commands) damage end)
+    → ((fault : CaptureFault) → damage ≡ Some fault → DemoMayEnd result after.cells → after.cells ≡ None)
+    → CarriesDemo rules lays seed count before after result → DemoGoes rules lays seed count damage before after
+goes_demo rules lays seed count (Some fault) before after result agree may carried = may fault refl carried.may
+goes_demo rules lays seed count None before after result agree may carried =
+    let cursor : Cursor = record { bytes = capture_text seed count; at = carried.at } in
+    record {
+      commands = carried.commands;
+      script = carried.script;
+      shaped = carried.shaped;
+      whole = some_told (Carried rules lays standard_profile before after result carried.commands cursor) (IsWhole rules lays standard_profile carried.commands None before after (record { bytes = capture_text seed count; at = 0 })) after.cells
+          (λ d c. moved_cursor rules lays standard_profile carried.commands None before after cursor d
+          (whole_at rules lays standard_profile carried.commands None before after result cursor d (λ start end. agree carried.at start end carried.commands) c)) carried.carried;
+    }
+
 goes_all : {T : Type 0} (rules : Rules) (lays : Board → Contents → Type 0) (form : Form) (damage : Option CaptureFault) (before after : Seen) (result : Result T Halt)
     → ((at : ℕ) (start end : Run) (commands : List Command) → Ends rules at result start (works_of commands) end → GoesTo rules start (works_of commands) damage end)
+    → ((fault : CaptureFault) → damage ≡ Some fault → DemoMayEnd result after.cells → after.cells ≡ None)
     → Carries rules lays form before after result → GoesAll rules lays form damage before after
-goes_all rules lays Wrong damage before after result agree carried = absurd carried
-goes_all rules lays (Replay profile script capture) damage before after result agree carried = record {
+goes_all rules lays Wrong damage before after result agree may carried = absurd carried
+goes_all rules lays (Demo seed count) damage before after result agree may carried = goes_demo rules lays seed count damage before after result agree may carried
+goes_all rules lays (Replay profile script capture) damage before after result agree may carried = record {
   setup = carried.setup;
   commands = carried.commands;
   opened = carried.opened;
@@ -130,7 +171,7 @@ goes_all rules lays (Replay profile script capture) damage before after result a
 
 pub to_done : (rules : Rules) (lays : Board → Contents → Type 0) (form : Form) (before after : Seen) (ending : Result (Unit {0}) Stop)
     → status_of ending ≡ statuses.Done → Promises rules lays form ending before after → GoesAll rules lays form None before after
-to_done rules lays form before after (Ok x) e promises = goes_all {T = Unit {0}} rules lays form None before after (Ok tt) (λ at start end commands. agrees {T = Unit {0}} rules at (Ok tt) start (works_of commands) end) promises
+to_done rules lays form before after (Ok x) e promises = goes_all {T = Unit {0}} rules lays form None before after (Ok tt) (λ at start end commands. agrees {T = Unit {0}} rules at (Ok tt) start (works_of commands) end) (λ fault e may. absurd (let bad : None ≡ Some fault = e in cc)) promises
 to_done rules lays form before after (Err (Opening refusals.Usage)) e promises = absurd (let bad : statuses.Usage ≡ statuses.Done = e in cc)
 to_done rules lays form before after (Err (Opening (refusals.Profile fault))) e promises = absurd (let bad : statuses.BadProfile ≡ statuses.Done = e in cc)
 to_done rules lays form before after (Err (Opening (refusals.Script fault))) e promises = absurd (let bad : statuses.BadScript ≡ statuses.Done = e in cc)
@@ -146,6 +187,7 @@ to_done rules lays form before after (Err (Carrying halts.Output)) e promises = 
 bad_header : (form : Form) (fault : CaptureFault) (before after : Seen) → IsRefused form (refusals.Header fault) before after → HasBadHeader form after.directory after.slots
 bad_header Wrong fault before after refused = absurd (let bad = refused.0 in cc)
 bad_header (Replay profile script capture) fault before after refused = (fault, refused.texts)
+bad_header (Demo seed count) fault before after refused = absurd refused.1
 
 pub to_damage : (rules : Rules) (lays : Board → Contents → Type 0) (form : Form) (before after : Seen) (ending : Result (Unit {0}) Stop)
     → status_of ending ≡ statuses.BadCapture → Promises rules lays form ending before after → IsDamaged rules lays form before after
@@ -157,7 +199,7 @@ to_damage rules lays form before after (Err (Opening (refusals.Header fault))) e
 to_damage rules lays form before after (Err (Opening (refusals.Input file))) e promises = absurd (let bad : statuses.InputFault ≡ statuses.BadCapture = e in cc)
 to_damage rules lays form before after (Err (Opening refusals.Device)) e promises = absurd (let bad : statuses.DeviceFault ≡ statuses.BadCapture = e in cc)
 to_damage rules lays form before after (Err (Opening refusals.Memory)) e promises = absurd (let bad : statuses.Memory ≡ statuses.BadCapture = e in cc)
-to_damage rules lays form before after (Err (Carrying (halts.Damage fault))) e promises = inr (fault, goes_all {T = Unit {0}} rules lays form (Some fault) before after (Err (halts.Damage fault)) (λ at start end commands. agrees {T = Unit {0}} rules at (Err (halts.Damage fault)) start (works_of commands) end) promises.carried)
+to_damage rules lays form before after (Err (Carrying (halts.Damage fault))) e promises = inr (fault, goes_all {T = Unit {0}} rules lays form (Some fault) before after (Err (halts.Damage fault)) (λ at start end commands. agrees {T = Unit {0}} rules at (Err (halts.Damage fault)) start (works_of commands) end) (λ other e may. may) promises.carried)
 to_damage rules lays form before after (Err (Carrying halts.Input)) e promises = absurd (let bad : statuses.InputFault ≡ statuses.BadCapture = e in cc)
 to_damage rules lays form before after (Err (Carrying halts.Device)) e promises = absurd (let bad : statuses.DeviceFault ≡ statuses.BadCapture = e in cc)
 to_damage rules lays form before after (Err (Carrying halts.Output)) e promises = absurd (let bad : statuses.OutputFault ≡ statuses.BadCapture = e in cc)
@@ -166,16 +208,19 @@ opened_by : {T : Type 0} (rules : Rules) (lays : Board → Contents → Type 0) 
     → Carries rules lays form before after result → HasOpened form after.directory after.slots
 opened_by rules lays Wrong before after result carried = absurd carried
 opened_by rules lays (Replay profile script capture) before after result carried = (carried.setup, carried.commands, carried.opened)
+opened_by rules lays (Demo seed count) before after result carried = tt
 
 input_opening : (form : Form) (file : _) (before after : Seen) → IsRefused form (refusals.Input file) before after
     → Rose before.files after.files × FailsInPlace form after.directory after.slots after.last
 input_opening Wrong file before after refused = absurd (let bad = refused.0 in cc)
 input_opening (Replay profile script capture) file before after refused = (refused.cause.0, inl (file, refused.cause.1, refused.texts))
+input_opening (Demo seed count) file before after refused = absurd refused.1
 
 input_carrying : (rules : Rules) (lays : Board → Contents → Type 0) (form : Form) (before after : Seen) → after.last ≡ 2
     → Carries {T = Unit {0}} rules lays form before after (Err halts.Input) → FailsInPlace form after.directory after.slots after.last
 input_carrying rules lays Wrong before after e carried = absurd carried
 input_carrying rules lays (Replay profile script capture) before after e carried = inr (e, opened_by {T = Unit {0}} rules lays (Replay profile script capture) before after (Err halts.Input) carried)
+input_carrying rules lays (Demo seed count) before after e carried = absurd carried.may
 
 pub to_input : (rules : Rules) (lays : Board → Contents → Type 0) (form : Form) (before after : Seen) (ending : Result (Unit {0}) Stop)
     → status_of ending ≡ statuses.InputFault → Promises rules lays form ending before after
@@ -197,6 +242,7 @@ shaped_by : {T : Type 0} (rules : Rules) (lays : Board → Contents → Type 0) 
     → Carries rules lays form before after result → HasShaped form after
 shaped_by rules lays Wrong before after result carried = absurd carried
 shaped_by rules lays (Replay profile script capture) before after result carried = (carried.setup, carried.commands, carried.opened, carried.shaped)
+shaped_by rules lays (Demo seed count) before after result carried = carried.shaped
 
 pub to_output : (rules : Rules) (lays : Board → Contents → Type 0) (form : Form) (before after : Seen) (ending : Result (Unit {0}) Stop)
     → status_of ending ≡ statuses.OutputFault → Promises rules lays form ending before after → Rose before.out after.out × HasShaped form after
@@ -216,6 +262,7 @@ to_output rules lays form before after (Err (Carrying halts.Output)) e promises 
 device_opening : (form : Form) (before after : Seen) → IsRefused form refusals.Device before after → Rose before.regs after.regs × FailsDevice form after
 device_opening Wrong before after refused = absurd (let bad = refused.0 in cc)
 device_opening (Replay profile script capture) before after refused = (refused.rose, inl ((refused.setup, refused.commands, refused.opened), refused.none))
+device_opening (Demo seed count) before after refused = (refused.1.0, inl (tt, refused.1.1))
 
 pub to_device : (rules : Rules) (lays : Board → Contents → Type 0) (form : Form) (before after : Seen) (ending : Result (Unit {0}) Stop)
     → status_of ending ≡ statuses.DeviceFault → Promises rules lays form ending before after → Rose before.regs after.regs × FailsDevice form after
@@ -247,6 +294,14 @@ to_nothing rules lays form before after (Err (Carrying halts.Input)) e promises 
 to_nothing rules lays form before after (Err (Carrying halts.Device)) e promises = absurd e
 to_nothing rules lays form before after (Err (Carrying halts.Output)) e promises = absurd e
 
+-- no stray is counted where the files stay
+strays_stay : (before after : Seen) → FilesStay before after → StraysStay after.directory before.strays after.strays
+strays_stay before after stays = by after.directory.names
+  where
+    by : (x : Option (List (List ℕ))) → IfSome x (λ there. after.strays ≡ before.strays)
+    by None = tt
+    by (Some x) = stays.strays
+
 -- no stray was counted but where a file failed
 refused_names : (form : Form) (refusal : Refusal) (before after : Seen) → (status_of_refusal refusal ≡ statuses.InputFault → ⊥) → IsRefused form refusal before after
     → StraysStay after.directory before.strays after.strays
@@ -258,11 +313,13 @@ refused_names (Replay profile script capture) (refusals.Header fault) before aft
 refused_names (Replay profile script capture) (refusals.Input file) before after other refused = absurd (other refl)
 refused_names (Replay profile script capture) refusals.Device before after other refused = refused.strays
 refused_names (Replay profile script capture) refusals.Memory before after other refused = refused.names
+refused_names (Demo seed count) refusal before after other refused = strays_stay before after refused.0
 
 carried_names : {T : Type 0} (rules : Rules) (lays : Board → Contents → Type 0) (form : Form) (before after : Seen) (result : Result T Halt)
     → Carries rules lays form before after result → StraysStay after.directory before.strays after.strays
 carried_names rules lays Wrong before after result carried = absurd carried
 carried_names rules lays (Replay profile script capture) before after result carried = carried.strays
+carried_names rules lays (Demo seed count) before after result carried = strays_stay before after carried.stays
 
 pub to_names : (rules : Rules) (lays : Board → Contents → Type 0) (form : Form) (before after : Seen) (ending : Result (Unit {0}) Stop)
     → (status_of ending ≡ statuses.InputFault → ⊥) → Promises rules lays form ending before after → StraysStay after.directory before.strays after.strays
@@ -275,10 +332,12 @@ input_names : (form : Form) (file : File) (before after : Seen) → IsRefused fo
     → FailsByName form after.directory after.last before.strays after.strays
 input_names Wrong file before after refused = absurd (let bad = refused.0 in cc)
 input_names (Replay profile script capture) file before after refused = (file, refused.cause.1, refused.names)
+input_names (Demo seed count) file before after refused = absurd refused.1
 
 carrying_names : (rules : Rules) (lays : Board → Contents → Type 0) (form : Form) (before after : Seen) → after.last ≡ 2
     → Carries {T = Unit {0}} rules lays form before after (Err halts.Input) → FailsByName form after.directory after.last before.strays after.strays
 carrying_names rules lays Wrong before after e carried = absurd carried
+carrying_names rules lays (Demo seed count) before after e carried = absurd carried.may
 carrying_names rules lays (Replay profile script capture) before after e carried = (files.Capture, e, by after.directory.names carried.strays)
   where
     by : (x : Option (List (List ℕ))) → IfSome x (λ there. after.strays ≡ before.strays) → IfSome x (λ there. list_any (bytes_eq capture) there ≡ true → after.strays ≡ before.strays)
@@ -303,3 +362,29 @@ to_stray rules lays form before after (Err (Carrying halts.Output)) e promises =
 -- what a promise says of its own status holds of the status that was answered
 pub by_status : (P : Status → Type 0) (status : Status) (ending : Result (Unit {0}) Stop) → status ≡ status_of ending → P (status_of ending) → P status
 by_status P status ending is holds = subst P (sym is) holds
+
+-- a demo leaves the handed-in files, and no file or text of it is at fault
+refused_demo : (seed count : ℕ) (refusal : Refusal) (before after : Seen) → IsRefused (Demo seed count) refusal before after
+    → FilesStay before after × IsOfDemo (status_of_refusal refusal)
+refused_demo seed count refusals.Usage before after refused = absurd refused.1
+refused_demo seed count (refusals.Profile fault) before after refused = absurd refused.1
+refused_demo seed count (refusals.Script fault) before after refused = absurd refused.1
+refused_demo seed count (refusals.Header fault) before after refused = absurd refused.1
+refused_demo seed count (refusals.Input file) before after refused = absurd refused.1
+refused_demo seed count refusals.Device before after refused = (refused.0, tt)
+refused_demo seed count refusals.Memory before after refused = (refused.0, tt)
+
+carried_demo : (rules : Rules) (lays : Board → Contents → Type 0) (seed count : ℕ) (before after : Seen) (halt : Halt)
+    → CarriesDemo {T = Unit {0}} rules lays seed count before after (Err halt) → FilesStay before after × IsOfDemo (status_of_halt halt)
+carried_demo rules lays seed count before after (halts.Damage fault) carried = (carried.stays, tt)
+carried_demo rules lays seed count before after halts.Input carried = absurd carried.may
+carried_demo rules lays seed count before after halts.Device carried = (carried.stays, tt)
+carried_demo rules lays seed count before after halts.Output carried = (carried.stays, tt)
+
+pub to_demo : (rules : Rules) (lays : Board → Contents → Type 0) (form : Form) (before after : Seen) (ending : Result (Unit {0}) Stop)
+    → Promises rules lays form ending before after → LeavesFiles form (status_of ending) before after
+to_demo rules lays Wrong before after ending promises = tt
+to_demo rules lays (Replay profile script capture) before after ending promises = tt
+to_demo rules lays (Demo seed count) before after (Ok x) promises = (promises.stays, tt)
+to_demo rules lays (Demo seed count) before after (Err (Opening refusal)) promises = refused_demo seed count refusal before after promises.refused
+to_demo rules lays (Demo seed count) before after (Err (Carrying halt)) promises = carried_demo rules lays seed count before after halt promises.carried

@@ -6,6 +6,8 @@ pub mod FileLemmas
 pub mod EndLemmas
 pub mod GoLemmas
 pub mod ClauseLemmas
+pub mod DemoLemmas
 pub mod IsolationLemmas
+pub mod WordValues
 pub mod Values
 pub mod ShownLemmas

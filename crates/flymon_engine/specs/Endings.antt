@@ -1,5 +1,5 @@
 -- How a run ends, and what it promises of each end.
-use Rattle.std.specs.Prelude.{◌≡◌, ℕ, ◌++◌, List, [], Option, Result, Ok, Err}
+use Rattle.std.specs.Prelude.{◌≡◌, ℕ, ◌++◌, true, List, [], IfSome, Option, None, Result, Ok, Err}
 use Rattle.outside.specs.Faults.{Rose}
 use Rattle.outside.specs.Told.{Told, Stays}
 use Rattle.fm_io.specs.Slots.{Cursor, Slots}
@@ -16,7 +16,7 @@ use Rattle.flymon_engine.specs.declared.stop.Refusal.{Refusal}
 use Rattle.flymon_engine.specs.declared.stop.Refusal.TheVariants as refusals
 use Rattle.flymon_engine.specs.declared.stop.Stop.{Stop}
 use Rattle.flymon_engine.specs.declared.stop.Stop.TheVariants.{Opening, Carrying}
-use Rattle.flymon_engine.specs.Words.{Form, Wrong, Replay}
+use Rattle.flymon_engine.specs.Words.{Form, Wrong, Replay, Demo}
 use Rattle.flymon_engine.specs.Works.{works_of}
 use Rattle.flymon_engine.specs.Causes.{HasCause}
 use Rattle.flymon_engine.specs.Arrivals.{Left, left_in}
@@ -27,6 +27,10 @@ use Rattle.flymon_engine.specs.Stops.{Ends}
 use Rattle.flymon_engine.specs.Worlds.{WhereTold}
 use Rattle.flymon_engine.specs.Opening.{Opens, StopsFiles, HasInputCause, KeepsNames, StraysStay}
 use Rattle.flymon_engine.specs.Messages.{message_of, SendsMessage}
+use Rattle.sw_profile.specs.Profiles.{standard_profile}
+use Rattle.task_lang.specs.Script.{script_in}
+use Rattle.gen_capture.specs.Scripts.{script_text}
+use Rattle.gen_capture.specs.Captures.{capture_text}
 
 -- the exit status of the program
 abbrev pub code_of : Status → ℕ
@@ -103,10 +107,25 @@ abbrev pub StopsReplay : (profile script capture : List ℕ) → Refusal → See
 StopsReplay profile script capture refusals.Device before after = StopsRegisters profile script capture before after
 StopsReplay profile script capture refusal before after = StopsReading profile script capture refusal before after
 
+-- all meanings of the handed-in files are as they were
+pub record FilesStay (before after : Seen) : Type 0 where
+  pub faults : after.files ≡ before.files
+  pub last : after.last ≡ before.last
+  pub strays : after.strays ≡ before.strays
+  pub directory : after.directory ≡ before.directory
+  pub slots : after.slots ≡ before.slots
+
+-- a demo has nothing to open: it stops for want of memory, or where the registers could not be shaped
+abbrev pub StopsDemo : Refusal → Seen → Seen → Type 0
+StopsDemo refusals.Memory before after = Unit {0}
+StopsDemo refusals.Device before after = Rose before.regs after.regs × (after.dims.arrays ≡ 0)
+StopsDemo refusal before after = ⊥
+
 -- Usage comes exactly where the words are no form
 abbrev pub IsRefused : Form → Refusal → Seen → Seen → Type 0
 IsRefused Wrong refusal before after = (refusal ≡ refusals.Usage) × StraysStay after.directory before.strays after.strays
 IsRefused (Replay profile script capture) refusal before after = StopsReplay profile script capture refusal before after
+IsRefused (Demo seed count) refusal before after = FilesStay before after × StopsDemo refusal before after
 
 pub record Refuses (form : Form) (refusal : Refusal) (before after : Seen) : Type 0 where
   pub nothing : DidNothing before after
@@ -140,11 +159,32 @@ pub record CarriesReplay {T : Type 0} (rules : Rules) (lays : Board → Contents
   pub opened : Opens profile script capture after.directory after.slots setup commands
   pub shaped : after.dims ≡ dims_of setup.shape
   pub strays : StraysStay after.directory before.strays after.strays
+  pub attached : after.slots.capture.attached ≡ true
   pub carried : WhereTold after.slots.capture.cursor after.cells (Carried rules lays setup before after result commands)
+
+-- how the commands of a demo may end: no file of it fails, and no damage is met where the registers tell their contents
+abbrev pub DemoMayEnd : {T : Type 0} → Result T Halt → Option Contents → Type 0
+DemoMayEnd (Ok x) cells = Unit {0}
+DemoMayEnd (Err halts.Output) cells = Unit {0}
+DemoMayEnd (Err halts.Device) cells = Unit {0}
+DemoMayEnd (Err (halts.Damage fault)) cells = cells ≡ None
+DemoMayEnd (Err halts.Input) cells = ⊥
+
+-- the generated script was carried out over the generated capture, under the standard profile
+pub record CarriesDemo {T : Type 0} (rules : Rules) (lays : Board → Contents → Type 0) (seed count : ℕ)
+    (before after : Seen) (result : Result T Halt) : Type 0 where
+  pub stays : FilesStay before after
+  pub may : DemoMayEnd result after.cells
+  pub commands : List Command
+  pub script : script_in script_text ≡ Ok commands
+  pub shaped : after.dims ≡ dims_of standard_profile.shape
+  pub at : ℕ
+  pub carried : IfSome after.cells (Carried rules lays standard_profile before after result commands (record { bytes = capture_text seed count; at = at }))
 
 abbrev pub Carries : {T : Type 0} → Rules → (Board → Contents → Type 0) → Form → Seen → Seen → Result T Halt → Type 0
 Carries rules lays Wrong before after result = ⊥
 Carries rules lays (Replay profile script capture) before after result = CarriesReplay rules lays profile script capture before after result
+Carries rules lays (Demo seed count) before after result = CarriesDemo rules lays seed count before after result
 
 pub record Halts (rules : Rules) (lays : Board → Contents → Type 0) (form : Form) (halt : Halt) (before after : Seen) : Type 0 where
   pub cause : HasCause before.files after.files after.last before.regs after.regs before.out after.out halt

@@ -13,17 +13,24 @@ use Rattle.sw_profile.specs.declared.profiles.Profile.{Profile}
 use Rattle.sw_profile.specs.Profiles.{profile_in, standard_profile}
 use Rattle.task_lang.specs.declared.commands.Command.{Command}
 use Rattle.task_lang.specs.Script.{script_in}
-use Rattle.flymon_engine.specs.declared.words.Names.{Names}
+use Rattle.flymon_engine.specs.declared.words.Asked.{Asked}
+use Rattle.flymon_engine.specs.declared.words.Asked.TheVariants as asked
 use Rattle.flymon_engine.specs.declared.stop.File.{File}
 use Rattle.flymon_engine.specs.declared.stop.File.TheVariants as files
 use Rattle.flymon_engine.specs.declared.stop.Refusal.{Refusal}
 use Rattle.flymon_engine.specs.declared.stop.Refusal.TheVariants as refusals
-use Rattle.flymon_engine.specs.Words.{Form, Wrong, Replay}
+use Rattle.flymon_engine.specs.Words.{Form, Wrong, Replay, Demo}
 use Rattle.flymon_engine.specs.Arrivals.{Left, left_in}
 
-abbrev pub form_view : Option Names → Form
+abbrev pub form_view : Option Asked → Form
 form_view None = Wrong
-form_view (Some names) = Replay names.profile.now names.script.now names.capture.now
+form_view (Some (asked.Replay names)) = Replay names.profile.now names.script.now names.capture.now
+form_view (Some (asked.Demo seed count)) = Demo seed count
+
+-- a demo of a million packets or fewer
+abbrev pub IsWithinDemo : Asked → Type 0
+IsWithinDemo (asked.Replay names) = Unit {0}
+IsWithinDemo (asked.Demo seed count) = count ≤ 1000000
 
 -- PROFILE `-` is the standard profile, and no file
 abbrev pub is_standard : List ℕ → Bool

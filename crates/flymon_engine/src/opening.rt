@@ -34,6 +34,7 @@ pub(crate) fn open_files<F: Files>(
     files: &mut F,
 ) -> Result<Opened, Refusal>
     ensures later { F.faults files.old ≤ F.faults files.new }
+    ensures directory { DirectoryStays (F.directory files.old) (F.directory files.new) }
     ensures cause { IfErr result (HasInputCause (F.faults files.old) (F.faults files.new) (F.last files.new)) }
     ensures standard { is_standard names.entry.profile.now ≡ true → SlotStays (F.slots files.old).profile (F.slots files.new).profile }
     ensures opens { IfOk result (λ opened. Opens names.entry.profile.now names.entry.script.now names.entry.capture.now
@@ -65,6 +66,7 @@ fn profile_of<F: Files>(
     files: &mut F,
 ) -> Result<Profile, Refusal>
     ensures later { F.faults files.old ≤ F.faults files.new }
+    ensures directory { DirectoryStays (F.directory files.old) (F.directory files.new) }
     ensures cause { IfErr result (HasInputCause (F.faults files.old) (F.faults files.new) (F.last files.new)) }
     ensures standard { is_standard names.entry.profile.now ≡ true → SlotStays (F.slots files.old).profile (F.slots files.new).profile }
     ensures gives { IfOk result (GivesProfile names.entry.profile.now (F.directory files.new) (F.slots files.new)) }

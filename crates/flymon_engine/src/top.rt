@@ -1,13 +1,14 @@
 //! The top call: all that the program does.
-ghost use Rattle.std.specs.Prelude.{◌≡◌, ◌↔◌, true, false, None};
+ghost use Rattle.std.specs.Prelude.{◌≡◌, ◌↔◌, ◌≤◌, ℕ, true, false, None};
 ghost use Rattle.outside.specs.Faults.{Rose};
 ghost use Rattle.outside.specs.Told.{Stays};
-ghost use Rattle.fm_io.specs.Slots.{SlotStays};
-ghost use Rattle.flymon_engine.specs.Words.{Wrong, Replay, form_of, texts_of};
+ghost use Rattle.fm_io.specs.Slots.{Slots, SlotStays};
+ghost use Rattle.fm_io.specs.Names.{Directory, DirectoryStays};
+ghost use Rattle.flymon_engine.specs.Words.{Wrong, Replay, Demo, form_of, texts_of};
 ghost use Rattle.flymon_engine.specs.Moves.{NoCalls};
 ghost use Rattle.flymon_engine.specs.Opening.{is_standard, StraysStay};
 ghost use Rattle.flymon_engine.specs.Endings.{Seen, Promises, Ran};
-ghost use Rattle.flymon_engine.specs.Clauses.{names_profile, HasBadProfile, HasBadScript, IsDamaged, GoesAll, FailsInPlace, HasShaped, FailsDevice, IsEarly, FailsByName, SendsItsMessage};
+ghost use Rattle.flymon_engine.specs.Clauses.{names_profile, HasBadProfile, HasBadScript, IsDamaged, GoesAll, FailsInPlace, HasShaped, FailsDevice, IsEarly, FailsByName, SendsItsMessage, LeavesFiles};
 
 use crate::carry::carry_all;
 use crate::machine::{Machine, StartFail};
@@ -15,8 +16,10 @@ use crate::opening::{Opened, open_files};
 use crate::report::report;
 use crate::status::Status;
 use crate::stop::{Refusal, Stop, ending, status_of};
-use crate::words::{Names, names_of};
+use crate::words::{Asked, Names, asked_of};
 use fm_io::{Files, Sink};
+use gen_capture::GenFiles;
+use gen_capture::laws::captures_are_whole;
 use reg_file::RegFile;
 use std::alloc::Global;
 
@@ -74,6 +77,12 @@ pub(crate) fn run_on<F: Files, M: Machine, R: RegFile, O: Sink, E: Sink>(
     ensures standard { names_profile (form_of (texts_of words.now)) ≡ false → SlotStays (F.slots files.old).profile (F.slots files.new).profile }
     ensures names { (result ≡ Status.InputFault → ⊥) → StraysStay (F.directory files.new) (F.strays files.old) (F.strays files.new) }
     ensures stray { result ≡ Status.InputFault → FailsByName (form_of (texts_of words.now)) (F.directory files.new) (F.last files.new) (F.strays files.old) (F.strays files.new) }
+    ensures demo {
+        let before : Seen = record { files = F.faults files.old; last = F.last files.old; strays = F.strays files.old; directory = F.directory files.old; slots = F.slots files.old;
+            regs = R.faults regs.old; dims = R.dims regs.old; cells = R.contents regs.old; calls = R.calls regs.old; out = O.faults out.old; sent = O.sent out.old } in
+        let after : Seen = record { files = F.faults files.new; last = F.last files.new; strays = F.strays files.new; directory = F.directory files.new; slots = F.slots files.new;
+            regs = R.faults regs.new; dims = R.dims regs.new; cells = R.contents regs.new; calls = R.calls regs.new; out = O.faults out.new; sent = O.sent out.new } in
+        LeavesFiles (form_of (texts_of words.now)) result before after }
     ensures message { SendsItsMessage result (E.faults err.old) (E.faults err.new) (E.sent err.old) (E.sent err.new) }
 {
     let ended = execute::<F, M, R, O>(alloc, words, files, regs, out);
@@ -97,10 +106,38 @@ fn execute<F: Files, M: Machine, R: RegFile, O: Sink>(
         Promises M.rules M.lays (form_of (texts_of words.now)) result before after }
     ensures standard { names_profile (form_of (texts_of words.now)) ≡ false → SlotStays (F.slots files.old).profile (F.slots files.new).profile }
 {
-    match names_of(words) {
-        Some(names) => replay::<F, M, R, O>(alloc, names, files, regs, out),
+    match asked_of(words) {
+        Some(Asked::Replay(names)) => replay::<F, M, R, O>(alloc, names, files, regs, out),
+        Some(Asked::Demo { seed, count }) => demo::<M, R, O>(alloc, seed, count, regs, out),
         None => Err(Stop::Opening(Refusal::Usage)),
     }
+}
+
+/// The same over generated files, under the standard profile. The promises hold whatever files were handed in.
+fn demo<M: Machine, R: RegFile, O: Sink>(
+    alloc: Global,
+    seed: u64,
+    count: u32,
+    regs: &mut R,
+    out: &mut O,
+) -> Result<(), Stop>
+    requires { count ≤ 1000000 }
+    ensures promises { (files last strays : ℕ) (directory : Directory) (slots : Slots) →
+        let before : Seen = record { files = files; last = last; strays = strays; directory = directory; slots = slots;
+            regs = R.faults regs.old; dims = R.dims regs.old; cells = R.contents regs.old; calls = R.calls regs.old; out = O.faults out.old; sent = O.sent out.old } in
+        let after : Seen = record { files = files; last = last; strays = strays; directory = directory; slots = slots;
+            regs = R.faults regs.new; dims = R.dims regs.new; cells = R.contents regs.new; calls = R.calls regs.new; out = O.faults out.new; sent = O.sent out.new } in
+        Promises M.rules M.lays (Demo seed count) result before after }
+{
+    let names = Names {
+        profile: "-",
+        script: "script",
+        capture: "capture",
+    };
+    // A law, which runs nothing: the generated capture is whole.
+    captures_are_whole();
+    let mut files = GenFiles::new(seed, count);
+    replay::<GenFiles, M, R, O>(alloc, names, &mut files, regs, out)
 }
 
 /// The opening, and then the commands.
@@ -118,6 +155,7 @@ fn replay<F: Files, M: Machine, R: RegFile, O: Sink>(
             regs = R.faults regs.new; dims = R.dims regs.new; cells = R.contents regs.new; calls = R.calls regs.new; out = O.faults out.new; sent = O.sent out.new } in
         Promises M.rules M.lays (Replay names.entry.profile.now names.entry.script.now names.entry.capture.now) result before after }
     ensures standard { is_standard names.entry.profile.now ≡ true → SlotStays (F.slots files.old).profile (F.slots files.new).profile }
+    ensures directory { DirectoryStays (F.directory files.old) (F.directory files.new) }
 {
     let opened = match open_files(alloc, names, files) {
         Ok(opened) => opened,

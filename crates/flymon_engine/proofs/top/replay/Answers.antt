@@ -37,6 +37,7 @@ returns-clause-promises g c = let r = g.R.RegFile in let f = g.F.Files in let m 
             setup = opened.profile;
             commands = c.deref.result.now;
             opened = opens;
+            attached = c.carry_all-carried.ensures.attached;
             shaped = c.finish.ensures.dims ∙ (c.carry_all-carried.ensures.dims ∙ c.in-Ok-start.ensures.dims);
             strays = strays_later (f.directory c.open_files.new.files) (f.directory files) (f.strays c.args.files.now) (f.strays c.open_files.new.files) (f.strays files)
                 c.carry_all-carried.ensures.directory c.in-Ok.ensures.strays c.carry_all-carried.ensures.strays;

@@ -4,8 +4,8 @@ use Rattle.flymon_engine.specs.declared.status.Status.TheVariants as statuses
 use Rattle.flymon_engine.specs.declared.stop.Stop.{Stop}
 use Rattle.flymon_engine.specs.Words.{Form, form_of, texts_of}
 use Rattle.flymon_engine.specs.Endings.{Seen, Promises, status_of}
-use Rattle.flymon_engine.specs.Clauses.{IsEarly}
-use Rattle.flymon_engine.proofs.ClauseLemmas.{to_wrong, from_wrong, to_bad_profile, to_bad_script, to_damage, to_done, to_input, to_output, to_device, to_nothing, to_names, to_stray}
+use Rattle.flymon_engine.specs.Clauses.{IsEarly, LeavesFiles}
+use Rattle.flymon_engine.proofs.ClauseLemmas.{to_wrong, from_wrong, to_bad_profile, to_bad_script, to_damage, to_done, to_input, to_output, to_device, to_nothing, to_names, to_stray, to_demo}
 use Rattle.flymon_engine.proofs.top.run_on.Goals as goal
 
 pub returns-clause-bad_profile : goal.returns-clause-bad_profile
@@ -119,3 +119,13 @@ returns-clause-names g c = let r = g.R.RegFile in let f = g.F.Files in let m = g
         regs = r.faults regs; dims = r.dims regs; cells = r.contents regs; calls = r.calls regs; out = o.faults out; sent = o.sent out } in
     let form = form_of (texts_of c.args.words.now) in let ended = c.execute-ended.result in
     λ other. to_names m.rules m.lays form before after ended (λ e. other (c.status_of.ensures ∙ e)) c.execute-ended.ensures.promises
+
+pub returns-clause-demo : goal.returns-clause-demo
+returns-clause-demo g c = let r = g.R.RegFile in let f = g.F.Files in let m = g.M.Machine in let o = g.O.Sink in
+    let before : Seen = record { files = f.faults c.args.files.now; last = f.last c.args.files.now; strays = f.strays c.args.files.now; directory = f.directory c.args.files.now; slots = f.slots c.args.files.now;
+        regs = r.faults c.args.regs.now; dims = r.dims c.args.regs.now; cells = r.contents c.args.regs.now; calls = r.calls c.args.regs.now; out = o.faults c.args.out.now; sent = o.sent c.args.out.now } in
+    let files = c.execute-ended.new.files in let regs = c.execute-ended.new.regs in let out = c.execute-ended.new.out in
+    let after : Seen = record { files = f.faults files; last = f.last files; strays = f.strays files; directory = f.directory files; slots = f.slots files;
+        regs = r.faults regs; dims = r.dims regs; cells = r.contents regs; calls = r.calls regs; out = o.faults out; sent = o.sent out } in
+    let form = form_of (texts_of c.args.words.now) in let ended = c.execute-ended.result in
+    subst (λ (status : Status). LeavesFiles form status before after) (sym c.status_of.ensures) (to_demo m.rules m.lays form before after ended c.execute-ended.ensures.promises)
