@@ -4,7 +4,7 @@ use Rattle.std.specs.List.{All}
 use Rattle.reg_file.specs.declared.traits.Call.{Call}
 use Rattle.reg_file.specs.Registers.{Contents}
 use Rattle.reg_file.specs.Calls.{all_made}
-use Rattle.pipe_core.specs.Flow.{Stages, flow}
+use Rattle.pipe_core.specs.Flow.{flow}
 use Rattle.pipe_flight.specs.Flights.{Flying, calls_next}
 use Rattle.pipe_flight.specs.Schedules.{Fill, filled, Step, Serial, serial_after, first_serial, Run, IsRun, ended}
 use Rattle.pipe_flight.specs.Schedules.Step.{Enter, Advance, Change, Show, Rearrange}
