@@ -52,7 +52,7 @@ outside_stay hash_key fresh old new stands stay apart holds k d within j inside 
     ∙ holds k d within j inside
 
 -- the regions that a change takes share no register with what tasks hold
-fresh_apart : (geometry : Geometry) (all : List Outline) (change : Change) (edit : Edit) → IsGeometry geometry → Sound geometry all
+pub fresh_apart : (geometry : Geometry) (all : List Outline) (change : Change) (edit : Edit) → IsGeometry geometry → Sound geometry all
     → judged geometry all change ≡ Ok edit → Across ShareNone (fresh_of edit) (all_held all)
 fresh_apart geometry all (Add task) edit good sound h =
     let is : AddIs geometry all task edit = add_is geometry all task edit h in
@@ -75,7 +75,7 @@ fresh_apart geometry all (Release name) edit good sound h =
     subst (λ (e : Edit). Across ShareNone (fresh_of e) (all_held all)) (sym is.is) (All-nil (λ h. All (ShareNone h) (all_held all)))
 
 -- registers that changed in such regions alone stand for what they stood for
-still_stands : (state : SwitchState) (records : List Record) (fresh : List Holding) (old new : Contents) → StayOutside fresh old new
+pub still_stands : (state : SwitchState) (records : List Record) (fresh : List Holding) (old new : Contents) → StayOutside fresh old new
     → Across ShareNone fresh (all_held (outlines records)) → StandsFor state records old → StandsFor state records new
 still_stands state records fresh old new stay apart for = record {
   sound = for.sound;

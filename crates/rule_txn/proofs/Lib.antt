@@ -27,8 +27,9 @@ mod Removed
 mod Resizes
 mod Refilled
 mod Added
-mod LookViews
-mod LookStarts
+pub mod LookChanges
+pub mod LookViews
+pub mod LookStarts
 pub mod BridgePipe
 pub mod ShownView
 mod ShownValues
