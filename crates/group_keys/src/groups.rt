@@ -1,6 +1,7 @@
 //! The units of one group, by their numbers.
 ghost use Rattle.std.specs.Prelude.{◌≡◌, ◌≢◌, ◌↔◌, ◌<◌, ◌≤◌, IfSome, IsTrue, MatchOption, None, Some, replicate, length};
 ghost use Rattle.std.specs.List.{All};
+ghost use Rattle.std.specs.Option.{option_copied};
 ghost use Rattle.key_mask.specs.Masks.{no_lengths};
 ghost use Rattle.group_keys.specs.Units.{unit_at, AreSound, HasRoom, mask_of, keys_for, served_at, served_units, freed_at, freed_units, AreUnits, AreInUse};
 
@@ -116,6 +117,17 @@ impl GroupKeys {
     {
         let unit = self.units[unit as usize]?;
         Some(unit.mask())
+    }
+
+    /// The mask of a unit in use, lent; none of a free one, and none where there is no such unit.
+    pub fn mask(&self, unit: u32) -> Option<&Mask>
+        requires { unit < 4 }
+        ensures { option_copied result ≡ mask_of (unit_at self.now unit) }
+    {
+        match &self.units[unit as usize] {
+            Some(unit) => Some(unit.lent_mask()),
+            None => None,
+        }
     }
 
     /// One use more on each of the units that give the key of this mask.

@@ -32,6 +32,13 @@ impl Unit {
     {
         self.mask
     }
+
+    /// The mask of the unit, lent.
+    pub(crate) fn lent_mask(&self) -> &Mask
+        ensures { result.now ≡ self.now.mask }
+    {
+        &self.mask
+    }
 }
 
 /// Whether the unit is in use with this mask.

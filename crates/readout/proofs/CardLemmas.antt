@@ -1,11 +1,11 @@
 -- The tally of a row, one cell after the other.
-use Rattle.std.proofs.Common.{◌≡◌, ℕ, ◌+◌, ◌-◌, ◌*◌, ◌^◌, ◌<◌, ◌≤◌, ◌==◌, List, [], length, take, slice_index, Option, None, Some, IfSome, refl, ap, ap₂, sym, ◌∙◌, subst, arith}
+use Rattle.std.proofs.Common.{◌≡◌, ℕ, ◌+◌, ◌-◌, ◌*◌, ◌^◌, ◌<◌, ◌≤◌, ◌==◌, List, [], ◌++◌, length, take, Option, Result, None, Some, IfSome, refl, ap, ap₂, sym, ◌∙◌, subst, arith}
+use Rattle.std.specs.Result.{IsErr}
 use Rattle.std.proofs.lemmas.Bool.{cond_both}
 use Rattle.std.proofs.lemmas.List.{get_or-map, take_all}
-use Rattle.std.proofs.lemmas.List.FromFn.{get_or-map-range_with_len, length-map-range_with_len}
 use Rattle.std.proofs.lemmas.Nat.{pow_pos, pow-add}
-use Rattle.outside.specs.Told.{Stays, Grows}
-use Rattle.outside.specs.Sent.{CameInPart}
+use Rattle.outside.specs.Told.{Stays}
+use Rattle.outside.specs.Sent.{CameInPart, Sends}
 use Rattle.outside.proofs.SentLemmas.{none_in_part}
 use Rattle.outside.proofs.ToldLemmas.{stays_same}
 use Rattle.reg_file.specs.Registers.{Contents}
@@ -16,20 +16,13 @@ use Rattle.readout.specs.declared.views.Placed.{Placed}
 use Rattle.readout.specs.declared.views.Side.TheVariants.{Live}
 use Rattle.readout.specs.PlacedTasks.{PlacedTask, no_place, place_at, live_bits, register_at, row_contents, rows_contents}
 use Rattle.readout.specs.Lines.{card_line}
-use Rattle.readout.specs.Judging.{line_of_card}
-use Rattle.readout.proofs.CellLemmas.{told_more, told_all, told_then}
+use Rattle.readout.proofs.PieceLemmas.{sends_at_err}
+use Rattle.readout.proofs.CellLemmas.{told_more, told_all, told_then, length_row, row_at}
 
 -- ---- the row
 
-pub length_row : (told : Contents) (place : Placed) → length (row_contents told Live place) ≡ 2 ^ place.region.bits
-length_row told place = length-map-range_with_len (register_at told Live place) 0 (2 ^ place.region.bits)
-
-pub row_at : (told : Contents) (place : Placed) (index : ℕ) → index < 2 ^ place.region.bits
-    → slice_index (row_contents told Live place) index ≡ register_at told Live place index
-row_at told place index inside = get_or-map-range_with_len (register_at told Live place) 0 (2 ^ place.region.bits) index index 0 inside (omega arith)
-
 pub row_whole : (told : Contents) (place : Placed) (index : ℕ) → index ≡ 2 ^ place.region.bits → take index (row_contents told Live place) ≡ row_contents told Live place
-row_whole told place index all = take_all index (row_contents told Live place) (omega (arith, length_row told place))
+row_whole told place index all = take_all index (row_contents told Live place) (omega (arith, length_row told Live place))
 
 pub row_first : (told : Contents) (placed : PlacedTask) → 0 < length placed.places
     → row_of (rows_contents told Live placed) 0 ≡ row_contents told Live (place_at placed 0)
@@ -51,16 +44,16 @@ pub zeros_step : (one two : Option Contents) (place : Placed) (count index cell 
     → IfSome one (ZerosSoFar count place index) → IfSome two (CellAt place index cell) → IfSome two (ZerosSoFar (count + zero_share cell) place (index + 1))
 zeros_step one two place count index cell inside same far here =
     told_more one two (ZerosSoFar count place index) (CellAt place index cell) (ZerosSoFar (count + zero_share cell) place (index + 1)) same
-    (λ told p q. let long : index < length (row_contents told Live place) = omega (arith, length_row told place) in
-    ap₂ (λ (n : ℕ) (m : ℕ). n + m) p (ap zero_share (q ∙ sym (row_at told place index inside))) ∙ sym (zeros_more (row_contents told Live place) index long))
+    (λ told p q. let long : index < length (row_contents told Live place) = omega (arith, length_row told Live place) in
+    ap₂ (λ (n : ℕ) (m : ℕ). n + m) p (ap zero_share (q ∙ sym (row_at told Live place index inside))) ∙ sym (zeros_more (row_contents told Live place) index long))
     far here
 
 pub z_step : (one two : Option Contents) (place : Placed) (z index cell : ℕ) → index < 2 ^ place.region.bits → Stays one two
     → IfSome one (ZSoFar z place index) → IfSome two (CellAt place index cell) → IfSome two (ZSoFar (z + rank_share cell) place (index + 1))
 z_step one two place z index cell inside same far here =
     told_more one two (ZSoFar z place index) (CellAt place index cell) (ZSoFar (z + rank_share cell) place (index + 1)) same
-    (λ told p q. let long : index < length (row_contents told Live place) = omega (arith, length_row told place) in
-    ap₂ (λ (n : ℕ) (m : ℕ). n + m) p (ap rank_share (q ∙ sym (row_at told place index inside))) ∙ sym (z_more (row_contents told Live place) index long))
+    (λ told p q. let long : index < length (row_contents told Live place) = omega (arith, length_row told Live place) in
+    ap₂ (λ (n : ℕ) (m : ℕ). n + m) p (ap rank_share (q ∙ sym (row_at told Live place index inside))) ∙ sym (z_more (row_contents told Live place) index long))
     far here
 
 pub zeros_start : (cells : Option Contents) (place : Placed) → IfSome cells (ZerosSoFar 0 place 0)
@@ -93,7 +86,9 @@ z_fits z size bits is high = omega (arith, pow-add 2 33 bits, ap (λ n. n * 2 ^ 
 -- ---- the line
 
 abbrev pub card_of : PlacedTask → Contents → List ℕ
-card_of placed told = line_of_card (live_bits placed) placed.task (rows_contents told Live placed)
+card_of placed told =
+    let cells = row_of (rows_contents told Live placed) 0 in
+    card_line placed.task.name (zeros_of cells) (z_of cells) (raw_of (live_bits placed) (z_of cells))
 
 card_as : (told : Contents) (placed : PlacedTask) (line : List ℕ) (count z : ℕ) → 0 < length placed.places
     → line ≡ card_line placed.task.name count z (raw_of (live_bits placed) z)
@@ -103,39 +98,27 @@ card_as told placed line count z some is are sums =
     let row = row_first told placed some in
     is ∙ ap₂ (λ n m. card_line placed.task.name n m (raw_of (live_bits placed) m)) (are ∙ ap zeros_of (sym row)) (sums ∙ ap z_of (sym row))
 
-abbrev BothTold : ℕ → ℕ → PlacedTask → Contents → Type 0
-BothTold count z placed told = (count ≡ zeros_of (row_contents told Live (place_at placed 0))) × (z ≡ z_of (row_contents told Live (place_at placed 0)))
+both_told : (cells : Option Contents) (P Q : Contents → Type 0) → IfSome cells P → IfSome cells Q → IfSome cells (λ told. P told × Q told)
+both_told None P Q p q = tt
+both_told (Some told) P Q p q = (p, q)
 
-both_told : (cells : Option Contents) (placed : PlacedTask) (count z : ℕ) → IfSome cells (λ told. count ≡ zeros_of (row_contents told Live (place_at placed 0)))
-    → IfSome cells (λ told. z ≡ z_of (row_contents told Live (place_at placed 0))) → IfSome cells (BothTold count z placed)
-both_told None placed count z p q = tt
-both_told (Some told) placed count z p q = (p, q)
-
-pub card_sent : (cells : Option Contents) (a b : Option (List ℕ)) (placed : PlacedTask) (line : List ℕ) (count z : ℕ) → 0 < length placed.places
+pub card_sent : {T E : Type 0} (result : Result T E) (cells : Option Contents) (a b : Option (List ℕ)) (placed : PlacedTask) (line : List ℕ) (count z : ℕ) → 0 < length placed.places
     → line ≡ card_line placed.task.name count z (raw_of (live_bits placed) z)
     → IfSome cells (λ told. count ≡ zeros_of (row_contents told Live (place_at placed 0)))
     → IfSome cells (λ told. z ≡ z_of (row_contents told Live (place_at placed 0)))
-    → Grows a line b → IfSome cells (λ told. Grows a (card_of placed told) b)
-card_sent cells a b placed line count z some is are sums grew =
-    told_then cells (BothTold count z placed) (λ told. Grows a (card_of placed told) b)
-    (λ told p. subst (λ t. Grows a t b) (card_as told placed line count z some is p.0 p.1) grew)
-    (both_told cells placed count z are sums)
-
-pub card_part : (cells : Option Contents) (a b : Option (List ℕ)) (placed : PlacedTask) (line : List ℕ) (count z : ℕ) → 0 < length placed.places
-    → line ≡ card_line placed.task.name count z (raw_of (live_bits placed) z)
-    → IfSome cells (λ told. count ≡ zeros_of (row_contents told Live (place_at placed 0)))
-    → IfSome cells (λ told. z ≡ z_of (row_contents told Live (place_at placed 0)))
-    → CameInPart a line b → IfSome cells (λ told. CameInPart a (card_of placed told) b)
-card_part cells a b placed line count z some is are sums part =
-    told_then cells (BothTold count z placed) (λ told. CameInPart a (card_of placed told) b)
-    (λ told p. subst (λ t. CameInPart a t b) (card_as told placed line count z some is p.0 p.1) part)
-    (both_told cells placed count z are sums)
+    → Sends a line result b → IfSome cells (λ told. Sends a (card_of placed told) result b)
+card_sent result cells a b placed line count z some is are sums sent =
+    told_then cells (λ told. (count ≡ zeros_of (row_contents told Live (place_at placed 0))) × (z ≡ z_of (row_contents told Live (place_at placed 0))))
+    (λ told. Sends a (card_of placed told) result b)
+    (λ told p. subst (λ t. Sends a t result b) (card_as told placed line count z some is p.0 p.1) sent)
+    (both_told cells (λ told. count ≡ zeros_of (row_contents told Live (place_at placed 0))) (λ told. z ≡ z_of (row_contents told Live (place_at placed 0))) are sums)
 
 some_card : (placed : PlacedTask) (told : Contents) → 0 < length (card_of placed told)
 unfolding card_line
 some_card placed told = omega arith
 
-pub card_unsent : (cells : Option Contents) (a : Option (List ℕ)) (placed : PlacedTask) → IfSome cells (λ told. CameInPart a (card_of placed told) a)
-card_unsent cells a placed =
-    told_all cells (λ told. CameInPart a (card_of placed told) a)
-    (λ told. none_in_part a a (card_of placed told) (some_card placed told) (stays_same a))
+pub card_unsent : {T E : Type 0} (result : Result T E) (cells : Option Contents) (a : Option (List ℕ)) (placed : PlacedTask) → IsErr result
+    → IfSome cells (λ told. Sends a (card_of placed told) result a)
+card_unsent result cells a placed failed =
+    told_all cells (λ told. Sends a (card_of placed told) result a)
+    (λ told. sends_at_err result a a (card_of placed told) failed (none_in_part a a (card_of placed told) (some_card placed told) (stays_same a)))

@@ -1,28 +1,30 @@
 -- The sizes of rising cells, one run after the other.
-use Rattle.std.proofs.Common.{◌≡◌, ◌≢◌, ℕ, zero, suc, ◌+◌, ◌-◌, ◌^◌, ◌<◌, ◌≤◌, List, [], ◌∷◌, ◌++◌, length, take, drop, get_or, replicate, codes, Option, Some, IfSome, refl, ap, ap₂, sym, ◌∙◌, subst, arith, append_assoc, add-one, length-drop}
+use Rattle.std.proofs.Common.{◌≡◌, ◌≢◌, ℕ, zero, suc, ◌+◌, ◌-◌, ◌^◌, ◌<◌, ◌≤◌, List, [], ◌∷◌, ◌++◌, length, take, drop, get_or, replicate, codes, Option, Result, Some, IfSome, refl, ap, ap₂, sym, ◌∙◌, subst, arith, append_assoc, add-one, length-drop}
 use Rattle.std.specs.List.{All, flat_map}
 use Rattle.std.specs.List.Sorted.{IsSorted}
 use Rattle.std.specs.Ordering.{nat_cmp}
+use Rattle.std.specs.Result.{IsErr}
 use Rattle.std.proofs.Math.Seq.{drop-cons, take-suc}
 use Rattle.std.proofs.lemmas.List.{append-nil, drop_all, get_or-drop}
 use Rattle.std.proofs.lemmas.List.Elements.{All-from_get_or}
 use Rattle.std.proofs.lemmas.Map.Keys.{ge_from_not_lt}
-use Rattle.outside.specs.Told.{Stays, Grows}
-use Rattle.outside.specs.Sent.{CameSoFar, CameInFront, CameInPart}
-use Rattle.outside.proofs.SentLemmas.{none_in_part, front_of_part}
-use Rattle.outside.proofs.ToldLemmas.{stays_same}
+use Rattle.outside.specs.Told.{Stays}
+use Rattle.outside.specs.Sent.{CameSoFar, CameInFront, Sends}
+use Rattle.outside.proofs.SentLemmas.{none_in_part}
+use Rattle.outside.proofs.ToldLemmas.{stays_same, grows_then}
 use Rattle.reg_file.specs.Registers.{Contents}
 use Rattle.sketch_defs.specs.Answers.{Size, sizes_of}
+use Rattle.sketch_defs.specs.Cells.{row_of}
 use Rattle.sketch_defs.proofs.EstimateLemmas.{power_le}
 use Rattle.sketch_defs.proofs.SizeLemmas.{sizes_of_run}
 use Rattle.readout.specs.declared.views.Placed.{Placed}
 use Rattle.readout.specs.declared.views.Side.TheVariants.{Live}
 use Rattle.readout.specs.PlacedTasks.{PlacedTask, place_at, live_bits, row_contents, rows_contents}
 use Rattle.readout.specs.Lines.{size_line, dist_lines}
-use Rattle.readout.specs.Judging.{lines_of_dist}
-use Rattle.readout.proofs.PieceLemmas.{put_behind, gathered_more, gathered_some, block_sent, block_end_fault, block_body_fault, block_head_fault}
-use Rattle.readout.proofs.CellLemmas.{told_more, told_all, told_then}
-use Rattle.readout.proofs.CardLemmas.{CellAt, length_row, row_at, row_whole, row_first}
+use Rattle.readout.specs.Outcomes.{Gathers}
+use Rattle.readout.proofs.PieceLemmas.{put_behind, room_put, front_of_more, gathers_at_err, sends_at_err, block_sent, block_cut}
+use Rattle.readout.proofs.CellLemmas.{told_more, told_all, told_then, length_row, row_at}
+use Rattle.readout.proofs.CardLemmas.{CellAt, row_whole, row_first}
 
 -- ---- the cells read
 
@@ -36,8 +38,8 @@ pub read_more : (one two : Option Contents) (place : Placed) (read : List ℕ) (
     → IfSome one (ReadSoFar read place index) → IfSome two (CellAt place index cell) → IfSome two (ReadSoFar (read ++ cell ∷ []) place (index + 1))
 read_more one two place read index cell inside same far here =
     told_more one two (ReadSoFar read place index) (CellAt place index cell) (ReadSoFar (read ++ cell ∷ []) place (index + 1)) same
-    (λ told p q. let long : index < length (row_contents told Live place) = omega (arith, length_row told place) in
-    ap₂ (λ (l : List ℕ) (n : ℕ). l ++ n ∷ []) p (q ∙ sym (row_at told place index inside))
+    (λ told p q. let long : index < length (row_contents told Live place) = omega (arith, length_row told Live place) in
+    ap₂ (λ (l : List ℕ) (n : ℕ). l ++ n ∷ []) p (q ∙ sym (row_at told Live place index inside))
     ∙ (sym (take-suc (row_contents told Live place) index 0 long) ∙ ap (λ n. take n (row_contents told Live place)) (sym (add-one index))))
     far here
 
@@ -107,6 +109,7 @@ run_sizes cells up at end above other far =
 
 -- ---- the lines of the sizes
 
+-- the lines of the cells from this one on are to come, behind a piece
 abbrev pub SizesSoFar : Option (List ℕ) → List ℕ → List ℕ → List ℕ → ℕ → Option (List ℕ) → Type 0
 SizesSoFar before first cells piece at now =
     CameSoFar before (first ++ flat_map size_line (sizes_of cells)) (piece ++ flat_map size_line (sizes_of (drop at cells))) now
@@ -114,26 +117,31 @@ SizesSoFar before first cells piece at now =
 pub sizes_start : (before : Option (List ℕ)) (piece cells : List ℕ) → SizesSoFar before piece cells piece 0 before
 sizes_start before piece cells = put_behind before (piece ++ flat_map size_line (sizes_of cells))
 
-next_size : (before mid : Option (List ℕ)) (text cells piece : List ℕ) (at count : ℕ) (size : Size) → sizes_of (drop at cells) ≡ size ∷ sizes_of (drop (at + count) cells)
-    → CameSoFar before text (piece ++ flat_map size_line (sizes_of (drop at cells))) mid
-    → CameSoFar before text (piece ++ (size_line size ++ flat_map size_line (sizes_of (drop (at + count) cells)))) mid
-next_size before mid text cells piece at count size is far = subst (λ sizes. CameSoFar before text (piece ++ flat_map size_line sizes) mid) is far
+-- of a piece and what is to come behind it, a piece is sent
+came_on : (a b c : Option (List ℕ)) (all piece mid rest : List ℕ) → CameSoFar a all (piece ++ rest) b → CameSoFar b (piece ++ []) mid c → CameSoFar a all (mid ++ rest) c
+came_on a b c all piece mid rest far next = record {
+  front = far.front ++ next.front;
+  grows = grows_then a b c far.front next.front far.grows next.grows;
+  whole = append_assoc far.front next.front (mid ++ rest)
+      ∙ (ap (λ t. far.front ++ t) (sym (append_assoc next.front mid rest) ∙ ap (λ t. t ++ rest) (next.whole ∙ append-nil piece)) ∙ far.whole);
+}
 
-pub sizes_more : (before mid now : Option (List ℕ)) (first cells piece left : List ℕ) (at count : ℕ) (size : Size)
+pub sizes_more : (a b c : Option (List ℕ)) (first cells piece mid left : List ℕ) (at count : ℕ) (size : Size)
     → sizes_of (drop at cells) ≡ size ∷ sizes_of (drop (at + count) cells)
-    → SizesSoFar before first cells piece at mid → CameSoFar mid (piece ++ size_line size) left now → SizesSoFar before first cells left (at + count) now
-sizes_more before mid now first cells piece left at count size is far put =
-    gathered_more before mid now (first ++ flat_map size_line (sizes_of cells)) piece (size_line size) (flat_map size_line (sizes_of (drop (at + count) cells))) left
-    (next_size before mid (first ++ flat_map size_line (sizes_of cells)) cells piece at count size is far) put
+    → SizesSoFar a first cells piece at b → CameSoFar b (piece ++ []) mid c → left ≡ mid ++ size_line size
+    → SizesSoFar a first cells left (at + count) c
+sizes_more a b c first cells piece mid left at count size is far next put =
+    let rest = flat_map size_line (sizes_of (drop (at + count) cells)) in
+    subst (λ t. CameSoFar a (first ++ flat_map size_line (sizes_of cells)) t c)
+    (ap (λ (sizes : List Size). mid ++ flat_map size_line sizes) is ∙ (sym (append_assoc mid (size_line size) rest) ∙ ap (λ t. t ++ rest) (sym put)))
+    (came_on a b c (first ++ flat_map size_line (sizes_of cells)) piece mid (flat_map size_line (sizes_of (drop at cells))) far next)
 
-pub sizes_fault : (before mid now : Option (List ℕ)) (first cells piece : List ℕ) (at count : ℕ) (size : Size)
-    → sizes_of (drop at cells) ≡ size ∷ sizes_of (drop (at + count) cells)
-    → SizesSoFar before first cells piece at mid → CameInPart mid (piece ++ size_line size) now
-    → CameInFront before (first ++ flat_map size_line (sizes_of cells)) now
-sizes_fault before mid now first cells piece at count size is far part =
-    gathered_some before mid now (first ++ flat_map size_line (sizes_of cells)) piece (size_line size) (flat_map size_line (sizes_of (drop (at + count) cells)))
-    (next_size before mid (first ++ flat_map size_line (sizes_of cells)) cells piece at count size is far)
-    (front_of_part mid now (piece ++ size_line size) part)
+pub sizes_cut : (a b c : Option (List ℕ)) (first cells piece : List ℕ) (at : ℕ)
+    → SizesSoFar a first cells piece at b → CameInFront b (piece ++ []) c → CameInFront a (first ++ flat_map size_line (sizes_of cells)) c
+sizes_cut a b c first cells piece at far front = record {
+  rest = front.rest ++ flat_map size_line (sizes_of (drop at cells));
+  so_far = came_on a b c (first ++ flat_map size_line (sizes_of cells)) piece front.rest (flat_map size_line (sizes_of (drop at cells))) far front.so_far;
+}
 
 pub sizes_done : (before now : Option (List ℕ)) (first cells piece : List ℕ) (at : ℕ) → length cells ≤ at
     → SizesSoFar before first cells piece at now → CameSoFar before (first ++ flat_map size_line (sizes_of cells)) piece now
@@ -143,72 +151,43 @@ sizes_done before now first cells piece at all far =
 
 -- ---- the block
 
-pub dist_text : (name : List ℕ) (sizes : List Size)
-    → dist_lines name sizes ≡ (codes "dist " ++ (name ++ codes "\n")) ++ (flat_map size_line sizes ++ codes "end\n")
+pub sizes_sent : {T E : Type 0} (result : Result T E) (a b c : Option (List ℕ)) (name head left : List ℕ) (sizes : List Size)
+    → head ≡ codes "dist " ++ (name ++ codes "\n") → CameSoFar a (head ++ flat_map size_line sizes) left b → Sends b (left ++ codes "end\n") result c
+    → Sends a (dist_lines name sizes) result c
 unfolding dist_lines
-dist_text name sizes = ap (λ t. codes "dist " ++ t) (sym (append_assoc name (codes "\n") (flat_map size_line sizes ++ codes "end\n")))
+sizes_sent result a b c name head left sizes is far sent =
+    subst (λ h. Sends a (h ++ (flat_map size_line sizes ++ codes "end\n")) result c) is
+    (block_sent result a b c head (flat_map size_line sizes) (codes "end\n") left far sent)
 
-pub sizes_head_fault : (a b : Option (List ℕ)) (name line : List ℕ) (sizes : List Size) → line ≡ codes "dist " ++ (name ++ codes "\n")
-    → CameInPart a ([] ++ line) b → CameInPart a (dist_lines name sizes) b
-sizes_head_fault a b name line sizes is part =
-    subst (λ t. CameInPart a t b) (sym (dist_text name sizes))
-    (block_head_fault a b (codes "dist " ++ (name ++ codes "\n")) (flat_map size_line sizes ++ codes "end\n") (subst (λ l. CameInPart a ([] ++ l) b) is part))
-
-pub sizes_body_fault : (a b c : Option (List ℕ)) (name line one : List ℕ) (sizes : List Size) → line ≡ codes "dist " ++ (name ++ codes "\n")
-    → CameSoFar a ([] ++ line) one b → CameInFront b (one ++ flat_map size_line sizes) c → CameInPart a (dist_lines name sizes) c
-sizes_body_fault a b c name line one sizes is put front =
-    subst (λ t. CameInPart a t c) (sym (dist_text name sizes))
-    (block_body_fault a b c (codes "dist " ++ (name ++ codes "\n")) (flat_map size_line sizes) (codes "end\n") one (omega arith)
-    (subst (λ l. CameSoFar a ([] ++ l) one b) is put) front)
-
-pub sizes_end_fault : (a b c d : Option (List ℕ)) (name line one two : List ℕ) (sizes : List Size) → line ≡ codes "dist " ++ (name ++ codes "\n")
-    → CameSoFar a ([] ++ line) one b → CameSoFar b (one ++ flat_map size_line sizes) two c → CameInPart c (two ++ codes "end\n") d
-    → CameInPart a (dist_lines name sizes) d
-sizes_end_fault a b c d name line one two sizes is put more part =
-    subst (λ t. CameInPart a t d) (sym (dist_text name sizes))
-    (block_end_fault a b c d (codes "dist " ++ (name ++ codes "\n")) (flat_map size_line sizes) (codes "end\n") one two
-    (subst (λ l. CameSoFar a ([] ++ l) one b) is put) more part)
-
-pub sizes_sent : (a b c d : Option (List ℕ)) (name line one two : List ℕ) (sizes : List Size) → line ≡ codes "dist " ++ (name ++ codes "\n")
-    → CameSoFar a ([] ++ line) one b → CameSoFar b (one ++ flat_map size_line sizes) two c → Grows c (two ++ codes "end\n") d
-    → Grows a (dist_lines name sizes) d
-sizes_sent a b c d name line one two sizes is put more grew =
-    subst (λ t. Grows a t d) (sym (dist_text name sizes))
-    (block_sent a b c d (codes "dist " ++ (name ++ codes "\n")) (flat_map size_line sizes) (codes "end\n") one two
-    (subst (λ l. CameSoFar a ([] ++ l) one b) is put) more grew)
+pub sizes_unsent : {T E : Type 0} (result : Result T E) (a b : Option (List ℕ)) (name head : List ℕ) (sizes : List Size) → IsErr result
+    → head ≡ codes "dist " ++ (name ++ codes "\n") → CameInFront a (head ++ flat_map size_line sizes) b → Sends a (dist_lines name sizes) result b
+unfolding dist_lines
+sizes_unsent result a b name head sizes failed is front =
+    subst (λ h. Sends a (h ++ (flat_map size_line sizes ++ codes "end\n")) result b) is
+    (sends_at_err result a b (head ++ (flat_map size_line sizes ++ codes "end\n")) failed (block_cut a b head (flat_map size_line sizes) (codes "end\n") (omega arith) front))
 
 -- ---- the task
 
 abbrev pub dist_of : PlacedTask → Contents → List ℕ
-dist_of placed told = lines_of_dist placed.task (rows_contents told Live placed)
+dist_of placed told = dist_lines placed.task.name (sizes_of (row_of (rows_contents told Live placed) 0))
 
-dist_as : (told : Contents) (placed : PlacedTask) (read sorted : List ℕ) → 0 < length placed.places → sizes_of sorted ≡ sizes_of read
-    → read ≡ row_contents told Live (place_at placed 0) → dist_lines placed.task.name (sizes_of sorted) ≡ dist_of placed told
-dist_as told placed read sorted some same is =
-    ap (dist_lines placed.task.name) (same ∙ ap sizes_of (is ∙ sym (row_first told placed some)))
-
-pub dist_sent : (cells : Option Contents) (a b : Option (List ℕ)) (placed : PlacedTask) (read sorted : List ℕ) → 0 < length placed.places
+pub dist_sent : {T E : Type 0} (result : Result T E) (cells : Option Contents) (a b : Option (List ℕ)) (placed : PlacedTask) (read sorted : List ℕ) → 0 < length placed.places
     → sizes_of sorted ≡ sizes_of read → IfSome cells (λ told. read ≡ row_contents told Live (place_at placed 0))
-    → Grows a (dist_lines placed.task.name (sizes_of sorted)) b → IfSome cells (λ told. Grows a (dist_of placed told) b)
-dist_sent cells a b placed read sorted some same is grew =
-    told_then cells (λ told. read ≡ row_contents told Live (place_at placed 0)) (λ told. Grows a (dist_of placed told) b)
-    (λ told p. subst (λ t. Grows a t b) (dist_as told placed read sorted some same p) grew) is
-
-pub dist_part : (cells : Option Contents) (a b : Option (List ℕ)) (placed : PlacedTask) (read sorted : List ℕ) → 0 < length placed.places
-    → sizes_of sorted ≡ sizes_of read → IfSome cells (λ told. read ≡ row_contents told Live (place_at placed 0))
-    → CameInPart a (dist_lines placed.task.name (sizes_of sorted)) b → IfSome cells (λ told. CameInPart a (dist_of placed told) b)
-dist_part cells a b placed read sorted some same is part =
-    told_then cells (λ told. read ≡ row_contents told Live (place_at placed 0)) (λ told. CameInPart a (dist_of placed told) b)
-    (λ told p. subst (λ t. CameInPart a t b) (dist_as told placed read sorted some same p) part) is
+    → Sends a (dist_lines placed.task.name (sizes_of sorted)) result b → IfSome cells (λ told. Sends a (dist_of placed told) result b)
+dist_sent result cells a b placed read sorted some same is sent =
+    told_then cells (λ told. read ≡ row_contents told Live (place_at placed 0)) (λ told. Sends a (dist_of placed told) result b)
+    (λ told p. subst (λ t. Sends a t result b)
+    (ap (dist_lines placed.task.name) (same ∙ ap sizes_of (p ∙ sym (row_first told placed some)))) sent) is
 
 some_dist : (placed : PlacedTask) (told : Contents) → 0 < length (dist_of placed told)
 unfolding dist_lines
 some_dist placed told = omega arith
 
-pub dist_unsent : (cells : Option Contents) (a : Option (List ℕ)) (placed : PlacedTask) → IfSome cells (λ told. CameInPart a (dist_of placed told) a)
-dist_unsent cells a placed =
-    told_all cells (λ told. CameInPart a (dist_of placed told) a)
-    (λ told. none_in_part a a (dist_of placed told) (some_dist placed told) (stays_same a))
+pub dist_unsent : {T E : Type 0} (result : Result T E) (cells : Option Contents) (a : Option (List ℕ)) (placed : PlacedTask) → IsErr result
+    → IfSome cells (λ told. Sends a (dist_of placed told) result a)
+dist_unsent result cells a placed failed =
+    told_all cells (λ told. Sends a (dist_of placed told) result a)
+    (λ told. sends_at_err result a a (dist_of placed told) failed (none_in_part a a (dist_of placed told) (some_dist placed told) (stays_same a)))
 
 -- ---- the room
 

@@ -1,8 +1,8 @@
-pub mod Values
+mod AnswerLemmas
 mod CardLemmas
 mod CellLemmas
 mod DistLemmas
 mod PieceLemmas
-mod QueryLemmas
-mod TwoTasksLemmas
 mod PlacedTaskLemmas
+mod QueryLemmas
+mod ShowLemmas

@@ -1,93 +1,155 @@
 -- What was sent, with a piece that is still to be sent before the rest.
-use Rattle.std.proofs.Common.{ℕ, ◌<◌, List, ◌++◌, [], Option, length, ◌∙◌, ap, sym, append_assoc, subst}
-use Rattle.std.proofs.lemmas.List.{append-nil}
-use Rattle.outside.specs.Told.{Grows}
-use Rattle.outside.specs.Sent.{CameSoFar, CameInFront, CameInPart}
+use Rattle.std.proofs.Common.{◌≡◌, ℕ, zero, suc, ◌+◌, ◌<◌, ◌≤◌, List, [], ◌∷◌, ◌++◌, Option, Result, Ok, Err, length, take, drop, slice_index_or, refl, ◌∙◌, ap, sym, append_assoc, subst, arith, add-one}
+use Rattle.std.specs.List.{flat_map}
+use Rattle.std.proofs.lemmas.List.{append-nil, take_all}
+use Rattle.std.specs.Result.{IsErr}
+use Rattle.std.proofs.lemmas.Bool.{false≢true}
+use Rattle.outside.specs.Faults.{HasCause}
+use Rattle.outside.specs.Told.{Stays, Grows}
+use Rattle.outside.specs.Sent.{CameSoFar, CameInFront, CameInPart, Sends}
 use Rattle.outside.proofs.ToldLemmas.{stays_same, grows_then}
-use Rattle.outside.proofs.SentLemmas.{none_came, more_came, part_came, front_came, part_of_more}
+use Rattle.outside.proofs.SentLemmas.{none_came, none_in_front, part_came, front_came, front_of_part}
+use Rattle.readout.specs.Outcomes.{Gathers}
 
--- a line put behind a piece that has room for it
+-- nothing yet
 pub put_behind : (a : Option (List ℕ)) (all : List ℕ) → CameSoFar a all all a
 put_behind a all = none_came a a all (stays_same a)
 
--- a line put into the piece that was sent before
-pub put_after : (a b : Option (List ℕ)) (piece line : List ℕ) → Grows a piece b → CameSoFar a (piece ++ line) line b
-put_after a b piece line grew = more_came a a b (piece ++ line) piece line (none_came a a (piece ++ line) (stays_same a)) grew
+-- a line put behind a piece in which room was made
+pub room_put : (a b : Option (List ℕ)) (piece line left : List ℕ) → CameSoFar a (piece ++ []) left b → CameSoFar a (piece ++ line) (left ++ line) b
+room_put a b piece line left far = record {
+  front = far.front;
+  grows = far.grows;
+  whole = sym (append_assoc far.front left line) ∙ ap (λ t. t ++ line) (far.whole ∙ append-nil piece);
+}
 
--- one line more: of the piece and the line, this piece is left
-pub gathered_more : (a b c : Option (List ℕ)) (all piece line rest left : List ℕ)
-    → CameSoFar a all (piece ++ (line ++ rest)) b → CameSoFar b (piece ++ line) left c → CameSoFar a all (left ++ rest) c
-gathered_more a b c all piece line rest left far more =
-    record {
-      front = far.front ++ more.front;
-      grows = grows_then a b c far.front more.front far.grows more.grows;
-      whole = append_assoc far.front more.front (left ++ rest)
-          ∙ (ap (λ t. far.front ++ t) (sym (append_assoc more.front left rest) ∙ (ap (λ t. t ++ rest) more.whole ∙ append_assoc piece line rest))
-          ∙ far.whole);
-    }
-
-gathered_rest : (a b : Option (List ℕ)) (all piece line rest : List ℕ)
-    → CameSoFar a all (piece ++ (line ++ rest)) b → CameSoFar a all ((piece ++ line) ++ rest) b
-gathered_rest a b all piece line rest far = subst (λ t. CameSoFar a all t b) (sym (append_assoc piece line rest)) far
-
--- a fault within the line, where more is to come
-pub gathered_front : (a b c : Option (List ℕ)) (all piece line rest : List ℕ)
-    → CameSoFar a all (piece ++ (line ++ rest)) b → CameInFront b (piece ++ line) c → 0 < length rest → CameInPart a all c
-gathered_front a b c all piece line rest far front some =
-    front_came a b c all (piece ++ line) rest (gathered_rest a b all piece line rest far) front some
-
--- a fault within the line
-pub gathered_part : (a b c : Option (List ℕ)) (all piece line rest : List ℕ)
-    → CameSoFar a all (piece ++ (line ++ rest)) b → CameInPart b (piece ++ line) c → CameInPart a all c
-gathered_part a b c all piece line rest far part =
-    part_came a b c all (piece ++ line) rest (gathered_rest a b all piece line rest far) part
-
--- a fault within the line, of which a front came
-pub gathered_some : (a b c : Option (List ℕ)) (all piece line rest : List ℕ)
-    → CameSoFar a all (piece ++ (line ++ rest)) b → CameInFront b (piece ++ line) c → CameInFront a all c
-gathered_some a b c all piece line rest far front = record {
+-- a front of a text is one of every longer text
+pub front_of_more : (a b : Option (List ℕ)) (piece text rest : List ℕ) → CameInFront a (piece ++ text) b → CameInFront a (piece ++ (text ++ rest)) b
+front_of_more a b piece text rest front = record {
   rest = front.rest ++ rest;
   so_far = record {
-    front = far.front ++ front.so_far.front;
-    grows = grows_then a b c far.front front.so_far.front far.grows front.so_far.grows;
-    whole = append_assoc far.front front.so_far.front (front.rest ++ rest)
-        ∙ (ap (λ t. far.front ++ t) (sym (append_assoc front.so_far.front front.rest rest) ∙ (ap (λ t. t ++ rest) front.so_far.whole ∙ append_assoc piece line rest))
-        ∙ far.whole);
+    front = front.so_far.front;
+    grows = front.so_far.grows;
+    whole = sym (append_assoc front.so_far.front front.rest rest) ∙ (ap (λ t. t ++ rest) front.so_far.whole ∙ append_assoc piece text rest);
   };
 }
 
--- the piece that is left is sent too
-pub sent_rest : (a b c : Option (List ℕ)) (all left : List ℕ) → CameSoFar a all left b → Grows b left c → Grows a all c
-sent_rest a b c all left far grew = subst (λ t. Grows a t c) far.whole (grows_then a b c far.front left far.grows grew)
+-- one text, and then another
+pub came_then : (a b c : Option (List ℕ)) (piece text mid more left : List ℕ)
+    → CameSoFar a (piece ++ text) mid b → CameSoFar b (mid ++ more) left c → CameSoFar a (piece ++ (text ++ more)) left c
+came_then a b c piece text mid more left far next = record {
+  front = far.front ++ next.front;
+  grows = grows_then a b c far.front next.front far.grows next.grows;
+  whole = append_assoc far.front next.front left
+      ∙ (ap (λ t. far.front ++ t) next.whole ∙ (sym (append_assoc far.front mid more) ∙ (ap (λ t. t ++ more) far.whole ∙ append_assoc piece text more)));
+}
 
-pub part_of_rest : (a b c : Option (List ℕ)) (all left : List ℕ) → CameSoFar a all left b → CameInPart b left c → CameInPart a all c
-part_of_rest a b c all left far part =
-    part_came a b c all left [] (subst (λ t. CameSoFar a all t b) (sym (append-nil left)) far) part
+-- one text, and then a front of another
+pub came_front : (a b c : Option (List ℕ)) (piece text mid more : List ℕ)
+    → CameSoFar a (piece ++ text) mid b → CameInFront b (mid ++ more) c → CameInFront a (piece ++ (text ++ more)) c
+came_front a b c piece text mid more far front =
+    record { rest = front.rest; so_far = came_then a b c piece text mid more front.rest far front.so_far }
 
--- ---- a block: its head, what it tells, and its end
+pub gathers_then : {T E : Type 0} (result : Result T E) (a b c : Option (List ℕ)) (piece text mid more left : List ℕ)
+    → CameSoFar a (piece ++ text) mid b → Gathers b mid more result left c → Gathers a piece (text ++ more) result left c
+gathers_then (Ok x) a b c piece text mid more left far next = came_then a b c piece text mid more left far next
+gathers_then (Err e) a b c piece text mid more left far front = came_front a b c piece text mid more far front
 
-head_sent : (a b : Option (List ℕ)) (head rest one : List ℕ) → CameSoFar a ([] ++ head) one b → CameSoFar a (head ++ rest) (one ++ rest) b
-head_sent a b head rest one put = gathered_more a a b (head ++ rest) [] head rest one (put_behind a (head ++ rest)) put
+-- ---- the texts of a list, one after the other
 
-body_sent : (a b c : Option (List ℕ)) (head body end one two : List ℕ)
-    → CameSoFar a ([] ++ head) one b → CameSoFar b (one ++ body) two c → CameSoFar a (head ++ (body ++ end)) (two ++ end) c
-body_sent a b c head body end one two put more =
-    gathered_more a b c (head ++ (body ++ end)) one body end two (head_sent a b head (body ++ end) one put) more
+pub flat_next : {X : Type 0} (f : X → List ℕ) (xs : List X) (i : ℕ) (d : X) → i < length xs
+    → flat_map f (take (i + 1) xs) ≡ flat_map f (take i xs) ++ f (slice_index_or xs i d)
+flat_next f [] i d inside = absurd (omega arith)
+flat_next f (x ∷ xs) zero d inside = append-nil (f x)
+flat_next f (x ∷ xs) (suc i) d inside =
+    let e : suc i + 1 ≡ suc (i + 1) = omega arith in
+    ap (λ k. flat_map f (take k (x ∷ xs))) e
+    ∙ (ap (λ t. f x ++ t) (flat_next f xs i d (omega arith)) ∙ sym (append_assoc (f x) (flat_map f (take i xs)) (f (slice_index_or xs i d))))
 
-pub block_sent : (a b c d : Option (List ℕ)) (head body end one two : List ℕ)
-    → CameSoFar a ([] ++ head) one b → CameSoFar b (one ++ body) two c → Grows c (two ++ end) d → Grows a (head ++ (body ++ end)) d
-block_sent a b c d head body end one two put more grew =
-    sent_rest a c d (head ++ (body ++ end)) (two ++ end) (body_sent a b c head body end one two put more) grew
+flat_split : {X : Type 0} (f : X → List ℕ) (xs : List X) (k : ℕ) → flat_map f xs ≡ flat_map f (take k xs) ++ flat_map f (drop k xs)
+flat_split f xs zero = refl
+flat_split f [] (suc k) = refl
+flat_split f (x ∷ xs) (suc k) =
+    ap (λ t. f x ++ t) (flat_split f xs k) ∙ sym (append_assoc (f x) (flat_map f (take k xs)) (flat_map f (drop k xs)))
 
-pub block_end_fault : (a b c d : Option (List ℕ)) (head body end one two : List ℕ)
-    → CameSoFar a ([] ++ head) one b → CameSoFar b (one ++ body) two c → CameInPart c (two ++ end) d → CameInPart a (head ++ (body ++ end)) d
-block_end_fault a b c d head body end one two put more part =
-    part_of_rest a c d (head ++ (body ++ end)) (two ++ end) (body_sent a b c head body end one two put more) part
+-- the texts of the first elements were gathered
+abbrev pub FlatSoFar : {X : Type 0} → Option (List ℕ) → List ℕ → (X → List ℕ) → List X → ℕ → List ℕ → Option (List ℕ) → Type 0
+FlatSoFar before first f xs i piece now = CameSoFar before (first ++ flat_map f (take i xs)) piece now
 
-pub block_body_fault : (a b c : Option (List ℕ)) (head body end one : List ℕ) → 0 < length end
-    → CameSoFar a ([] ++ head) one b → CameInFront b (one ++ body) c → CameInPart a (head ++ (body ++ end)) c
-block_body_fault a b c head body end one some put front =
-    gathered_front a b c (head ++ (body ++ end)) one body end (head_sent a b head (body ++ end) one put) front some
+pub flat_start : {X : Type 0} (a : Option (List ℕ)) (first : List ℕ) (f : X → List ℕ) (xs : List X) → FlatSoFar a first f xs 0 first a
+flat_start a first f xs = subst (λ t. CameSoFar a t first a) (sym (append-nil first)) (put_behind a first)
 
-pub block_head_fault : (a b : Option (List ℕ)) (head rest : List ℕ) → CameInPart a ([] ++ head) b → CameInPart a (head ++ rest) b
-block_head_fault a b head rest part = part_of_more a b head rest part
+pub flat_more : {X : Type 0} (a b c : Option (List ℕ)) (first : List ℕ) (f : X → List ℕ) (xs : List X) (i : ℕ) (d : X) (piece left : List ℕ) → i < length xs
+    → FlatSoFar a first f xs i piece b → CameSoFar b (piece ++ f (slice_index_or xs i d)) left c → FlatSoFar a first f xs (i + 1) left c
+flat_more a b c first f xs i d piece left inside far next =
+    subst (λ t. CameSoFar a (first ++ t) left c) (sym (flat_next f xs i d inside))
+    (came_then a b c first (flat_map f (take i xs)) piece (f (slice_index_or xs i d)) left far next)
+
+pub flat_cut : {X : Type 0} (a b c : Option (List ℕ)) (first : List ℕ) (f : X → List ℕ) (xs : List X) (i : ℕ) (d : X) (piece : List ℕ) → i < length xs
+    → FlatSoFar a first f xs i piece b → CameInFront b (piece ++ f (slice_index_or xs i d)) c → CameInFront a (first ++ flat_map f xs) c
+flat_cut a b c first f xs i d piece inside far front =
+    subst (λ t. CameInFront a (first ++ t) c) (sym (flat_split f xs (i + 1)))
+    (front_of_more a c first (flat_map f (take (i + 1) xs)) (flat_map f (drop (i + 1) xs))
+    (subst (λ t. CameInFront a (first ++ t) c) (sym (flat_next f xs i d inside))
+    (came_front a b c first (flat_map f (take i xs)) piece (f (slice_index_or xs i d)) far front)))
+
+pub flat_done : {X : Type 0} (a b : Option (List ℕ)) (first : List ℕ) (f : X → List ℕ) (xs : List X) (i : ℕ) (piece : List ℕ) → length xs ≤ i
+    → FlatSoFar a first f xs i piece b → CameSoFar a (first ++ flat_map f xs) piece b
+flat_done {X = X} a b first f xs i piece all far = subst (λ (l : List X). CameSoFar a (first ++ flat_map f l) piece b) (take_all i xs all) far
+
+-- ---- blocks
+
+-- the piece is sent, which is all that is left
+pub sent_rest : {T E : Type 0} (result : Result T E) (a b c : Option (List ℕ)) (all left : List ℕ) → CameSoFar a all left b → Sends b left result c → Sends a all result c
+sent_rest (Ok x) a b c all left far grew = subst (λ t. Grows a t c) far.whole (grows_then a b c far.front left far.grows grew)
+sent_rest (Err e) a b c all left far part = part_came a b c all left [] (subst (λ t. CameSoFar a all t b) (sym (append-nil left)) far) part
+
+-- the end of a block
+pub block_sent : {T E : Type 0} (result : Result T E) (a b c : Option (List ℕ)) (head body end left : List ℕ)
+    → CameSoFar a (head ++ body) left b → Sends b (left ++ end) result c → Sends a (head ++ (body ++ end)) result c
+block_sent result a b c head body end left far sent =
+    sent_rest result a b c (head ++ (body ++ end)) (left ++ end)
+    (subst (λ t. CameSoFar a t (left ++ end) b) (append_assoc head body end)
+    (record { front = far.front; grows = far.grows; whole = sym (append_assoc far.front left end) ∙ ap (λ t. t ++ end) far.whole })) sent
+
+-- a fault before the end
+pub block_cut : (a b : Option (List ℕ)) (head body end : List ℕ) → 0 < length end → CameInFront a (head ++ body) b → CameInPart a (head ++ (body ++ end)) b
+block_cut a b head body end some front =
+    subst (λ t. CameInPart a t b) (append_assoc head body end)
+    (front_came a a b ((head ++ body) ++ end) (head ++ body) end (none_came a a ((head ++ body) ++ end) (stays_same a)) front some)
+
+-- ---- at a fault
+
+pub sends_at_err : {T E : Type 0} (result : Result T E) (a b : Option (List ℕ)) (all : List ℕ) → IsErr result → CameInPart a all b → Sends a all result b
+sends_at_err (Ok x) a b all failed part = absurd (false≢true failed)
+sends_at_err (Err e) a b all failed part = part
+
+pub gathers_at_err : {T E : Type 0} (result : Result T E) (a b : Option (List ℕ)) (piece text left : List ℕ)
+    → IsErr result → CameInFront a (piece ++ text) b → Gathers a piece text result left b
+gathers_at_err (Ok x) a b piece text left failed front = absurd (false≢true failed)
+gathers_at_err (Err e) a b piece text left failed front = front
+
+-- a cause in a later call is one of both
+pub cause_then : {T E D : Type 0} (result : Result T E) (fault : D) (a b c : ℕ) → a ≤ b → HasCause {T = T} b c (Err fault) → HasCause a c result
+cause_then (Ok x) fault a b c later cause = record { later = omega (arith, later, cause.later); failed = tt }
+cause_then (Err e) fault a b c later cause = record { later = omega (arith, later, cause.later); failed = omega (arith, later, cause.failed) }
+
+-- ---- a list whose texts are put into a piece in which room is made for each
+
+pub flat_put : {X : Type 0} (a b c : Option (List ℕ)) (first : List ℕ) (f : X → List ℕ) (xs : List X) (i : ℕ) (d : X) (piece mid left line : List ℕ) → i < length xs
+    → f (slice_index_or xs i d) ≡ line → FlatSoFar a first f xs i piece b → CameSoFar b (piece ++ []) mid c → left ≡ mid ++ line
+    → FlatSoFar a first f xs (i + 1) left c
+flat_put a b c first f xs i d piece mid left line inside is far room put =
+    flat_more a b c first f xs i d piece left inside far
+    (subst (λ t. CameSoFar b (piece ++ t) left c) (sym is) (subst (λ l. CameSoFar b (piece ++ line) l c) (sym put) (room_put b c piece line mid room)))
+
+pub flat_unput : {X T E : Type 0} (result : Result T E) (a b c : Option (List ℕ)) (first : List ℕ) (f : X → List ℕ) (xs : List X) (i : ℕ) (d : X) (piece left : List ℕ) → i < length xs
+    → IsErr result → FlatSoFar a first f xs i piece b → CameInFront b (piece ++ []) c → Gathers a first (flat_map f xs) result left c
+flat_unput result a b c first f xs i d piece left inside failed far front =
+    gathers_at_err result a c first (flat_map f xs) left failed
+    (flat_cut a b c first f xs i d piece inside far (front_of_more b c piece [] (f (slice_index_or xs i d)) front))
+
+pub flat_stop : {X T E : Type 0} (result : Result T E) (a b c : Option (List ℕ)) (first : List ℕ) (f : X → List ℕ) (xs : List X) (i : ℕ) (d : X) (piece left : List ℕ) → i < length xs
+    → IsErr result → FlatSoFar a first f xs i piece b → CameInFront b (piece ++ f (slice_index_or xs i d)) c → Gathers a first (flat_map f xs) result left c
+flat_stop result a b c first f xs i d piece left inside failed far front =
+    gathers_at_err result a c first (flat_map f xs) left failed (flat_cut a b c first f xs i d piece inside far front)

@@ -1,20 +1,20 @@
 -- Tasks found in a list, and what a fit task has.
-use Rattle.std.proofs.Common.{◌≡◌, ℕ, zero, suc, ◌^◌, ◌<◌, ◌≤◌, if◌then◌else◌, Bool, true, false, cond, not, nat_lt, nat_le, List, [], ◌∷◌, length, slice_index_or, Option, None, Some, option_map, is_some, unwrap_or, IfSome, refl, sym, ◌∙◌, arith}
-use Rattle.std.specs.List.{position, position_or_len, slice_get}
+use Rattle.std.proofs.Common.{◌≡◌, ℕ, zero, suc, ◌^◌, ◌<◌, ◌≤◌, if◌then◌else◌, Bool, true, false, cond, not, nat_lt, nat_le, List, [], ◌∷◌, length, map, slice_index_or, Option, None, Some, option_map, is_some, unwrap_or, IfSome, refl, sym, ap, ◌∙◌, arith}
+use Rattle.std.specs.List.{find, position, position_or_len, slice_get}
+use Rattle.std.specs.Str.{bytes_eq}
 use Rattle.std.proofs.lemmas.List.Folds.{find_at}
 use Rattle.std.proofs.lemmas.Bool.{cond_both, false≢true}
 use Rattle.std.proofs.lemmas.Bool.Decides.{nat_tests}
-use Rattle.addr_translate.specs.Blocks.{Block}
-use Rattle.addr_translate.specs.Geometry.{Geometry}
+use Rattle.addr_translate.specs.Geometry.{Geometry, array_count}
 use Rattle.sketch_defs.specs.declared.kinds.Kind.{Kind}
 use Rattle.sketch_defs.specs.declared.kinds.Kind.TheVariants.{Cms, SumaxSum, SumaxMax, Bloom, Mrac, Hll, FlagOr, FlagAnd}
 use Rattle.sketch_defs.specs.declared.tasks.TaskFault.{TaskFault}
 use Rattle.sketch_defs.specs.declared.tasks.TaskFault.TheVariants as faults
 use Rattle.sketch_defs.specs.Tasks.{Sketch, first_fault, allows_rows, most_rows}
-use Rattle.readout.specs.declared.views.Side.{Side}
-use Rattle.readout.specs.declared.views.Side.TheVariants.{Live, Frozen}
-use Rattle.readout.specs.PlacedTasks.{PlacedTask, placed_task_at, place_at, is_named, task_named, live_bits, frozen_bits, HasSide, block_of, IsPlaced, IsPlacedTask, IsFit, no_placed_task, no_place}
-use Rattle.readout.specs.Judging.{side_size, frozen_size}
+use Rattle.reg_file.specs.Registers.{Contents}
+use Rattle.readout.specs.PlacedTasks.{PlacedTask, View, task_in, place_in, placed_task_at, place_at, is_named, task_named, part_in, parts_in, live_bits, frozen_bits, IsPlaced, IsPlacedTask, IsFit, no_placed_task, no_place}
+use Rattle.readout.specs.Answers.{part_named}
+use Rattle.readout.specs.Parts.{SketchPart}
 use Rattle.sketch_defs.proofs.NameLemmas.{both_true}
 
 -- ---- found
@@ -35,10 +35,28 @@ get_where xs i d = cond_both (nat_lt i (length xs)) (Some i) None (λ o. slice_g
     (λ e. get_inside xs i d (grind (arith, nat_tests, e)))
     (λ e. get_outside xs i (grind (arith, nat_tests, e)))
 
-pub found_at : (name : List ℕ) (tasks : List PlacedTask)
-    → task_named name tasks ≡ option_map (placed_task_at tasks) (position (is_named name) tasks)
-found_at name tasks =
-    find_at (is_named name) tasks ∙ get_where tasks (position_or_len (is_named name) tasks) no_placed_task
+pub found_at : (name : List ℕ) (view : View) → task_named name view ≡ option_map (task_in view) (position (is_named name) view.tasks)
+found_at name view =
+    find_at (is_named name) view.tasks ∙ get_where view.tasks (position_or_len (is_named name) view.tasks) no_placed_task
+
+part_by : (told : Contents) (name : List ℕ) (tasks : List PlacedTask)
+    → find (λ (part : SketchPart). bytes_eq part.task.name name) (map (part_in told) tasks) ≡ option_map (part_in told) (find (is_named name) tasks)
+part_by told name [] = refl
+part_by told name (placed ∷ tasks) =
+    cond_both (is_named name placed) (Some (part_in told placed)) (find (λ (part : SketchPart). bytes_eq part.task.name name) (map (part_in told) tasks))
+    (λ o. o ≡ option_map (part_in told) (cond (is_named name placed) (Some placed) (find (is_named name) tasks)))
+    (λ e. rw e refl) (λ e. rw e (part_by told name tasks))
+
+map_both : (told : Contents) (view : View) (found : Option ℕ)
+    → option_map (part_in told) (option_map (task_in view) found) ≡ option_map (λ at. part_in told (task_in view at)) found
+map_both told view None = refl
+map_both told view (Some at) = refl
+
+-- the part of a task that is found
+pub part_at : (told : Contents) (name : List ℕ) (view : View)
+    → part_named name (parts_in told view) ≡ option_map (λ at. part_in told (task_in view at)) (position (is_named name) view.tasks)
+part_at told name view =
+    part_by told name view.tasks ∙ (ap (option_map (part_in told)) (found_at name view) ∙ map_both told view (position (is_named name) view.tasks))
 
 below_where : (i n : ℕ) → IfSome (cond (nat_lt i n) (Some i) None) (λ at. at < n)
 below_where i n = cond_both (nat_lt i n) (Some i) None (λ o. IfSome o (λ at. at < n)) (λ e. grind (arith, nat_tests, e)) (λ e. tt)
@@ -80,36 +98,19 @@ few_rows task sound = omega (arith, (rows_allowed task sound).1, most_few task.k
 
 -- ---- what a fit task has
 
-placed_task_fit : (geometry : Geometry) (tasks : List PlacedTask) (at : ℕ) → IsFit geometry tasks → at < length tasks → IsPlacedTask geometry (placed_task_at tasks at)
-placed_task_fit geometry tasks at fit below = fit at no_placed_task below
+placed_task_fit : (view : View) (at : ℕ) → IsFit view → at < length view.tasks → IsPlacedTask view.geometry (task_in view at)
+placed_task_fit view at fit below = fit at no_placed_task below
 
-pub rows_placed : (geometry : Geometry) (tasks : List PlacedTask) (at : ℕ) → IsFit geometry tasks → at < length tasks
-    → length (placed_task_at tasks at).places ≡ (placed_task_at tasks at).task.rows
-rows_placed geometry tasks at fit below = (placed_task_fit geometry tasks at fit below).rows
+pub rows_placed : (view : View) (at : ℕ) → IsFit view → at < length view.tasks → length (task_in view at).places ≡ (task_in view at).task.rows
+rows_placed view at fit below = (placed_task_fit view at fit below).rows
 
-pub row_placed : (geometry : Geometry) (tasks : List PlacedTask) (at row : ℕ) → IsFit geometry tasks → at < length tasks
-    → row < length (placed_task_at tasks at).places
-    → IsPlaced geometry (live_bits (placed_task_at tasks at)) (frozen_bits (placed_task_at tasks at)) (place_at (placed_task_at tasks at) row)
-row_placed geometry tasks at row fit below inside = (placed_task_fit geometry tasks at fit below).places row no_place inside
+pub row_placed : (view : View) (at row : ℕ) → IsFit view → at < length view.tasks → row < length (task_in view at).places
+    → IsPlaced view.geometry (live_bits (task_in view at)) (frozen_bits (task_in view at)) (place_in view at row)
+row_placed view at row fit below inside = (placed_task_fit view at fit below).places row no_place inside
 
-frozen_part : (frozen : Option Block) (region : Block) → is_some (option_map (λ (block : Block). block.bits) frozen) ≡ true
-    → 2 ^ (unwrap_or frozen region).bits ≡ frozen_size (option_map (λ (block : Block). block.bits) frozen)
-frozen_part None region e = absurd (false≢true e)
-frozen_part (Some block) region e = refl
+pub array_exists : (view : View) (at row : ℕ) → IsFit view → at < length view.tasks → row < length (task_in view at).places
+    → (place_in view at row).array < array_count view.geometry
+array_exists view at row fit below inside = (row_placed view at row fit below inside).array
 
--- the partition of the first row has the size of the side
-pub size_of_side : (geometry : Geometry) (tasks : List PlacedTask) (at : ℕ) (side : Side) → IsFit geometry tasks → at < length tasks
-    → HasSide side (placed_task_at tasks at)
-    → 2 ^ (block_of side (place_at (placed_task_at tasks at) 0)).bits ≡ side_size side (placed_task_at tasks at)
-size_of_side geometry tasks at Live fit below has = sym (placed_task_fit geometry tasks at fit below).size
-size_of_side geometry tasks at Frozen fit below has =
-    let place = place_at (placed_task_at tasks at) 0 in frozen_part place.frozen place.region has
-
--- a task has a frozen side where its first row has a frozen partition
-pub bits_where_frozen : (frozen : Option Block) → is_some (option_map (λ (block : Block). block.bits) frozen) ≡ is_some frozen
-bits_where_frozen None = refl
-bits_where_frozen (Some block) = refl
-
-pub ranks_bits : (geometry : Geometry) (tasks : List PlacedTask) (at : ℕ) → IsFit geometry tasks → at < length tasks
-    → (placed_task_at tasks at).task.kind ≡ Hll → 4 ≤ live_bits (placed_task_at tasks at)
-ranks_bits geometry tasks at fit below is = (placed_task_fit geometry tasks at fit below).ranks is
+pub ranks_bits : (view : View) (at : ℕ) → IsFit view → at < length view.tasks → (task_in view at).task.kind ≡ Hll → 4 ≤ live_bits (task_in view at)
+ranks_bits view at fit below is = (placed_task_fit view at fit below).ranks is

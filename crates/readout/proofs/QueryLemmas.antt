@@ -1,30 +1,31 @@
 -- The cells of a key, one row after the other.
-use Rattle.std.proofs.Common.{◌≡◌, ℕ, ◌+◌, ◌^◌, ◌<◌, List, [], ◌∷◌, ◌++◌, length, map, drop, slice_index, true, Option, IfSome, refl, ap, sym, ◌∙◌, subst, arith, append_assoc, add-one}
+use Rattle.std.proofs.Common.{◌≡◌, ◌≢◌, ℕ, ◌+◌, ◌^◌, ◌<◌, List, [], ◌∷◌, ◌++◌, length, map, drop, slice_index, true, Ok, Option, Result, Some, IfSome, IfOk, refl, ap, ap₂, sym, ◌∙◌, subst, arith, append_assoc, add-one}
+use Rattle.std.specs.Result.{IsErr}
+use Rattle.std.specs.Str.{bytes_eq}
 use Rattle.std.proofs.Math.Seq.{drop-cons}
 use Rattle.std.proofs.lemmas.List.{append-nil, drop_all}
-use Rattle.std.proofs.lemmas.Bool.{false≢true}
 use Rattle.std.proofs.lemmas.List.FromFn.{get_or-map-range_with_len}
-use Rattle.outside.specs.Told.{Stays, Grows}
-use Rattle.outside.specs.Sent.{CameInPart}
-use Rattle.addr_translate.specs.Blocks.{index_of}
-use Rattle.hash_units.specs.Toeplitz.{row_hash_of}
-use Rattle.reg_file.specs.Registers.{Contents}
-use Rattle.sketch_defs.specs.declared.kinds.Kind.{Kind}
-use Rattle.sketch_defs.specs.declared.kinds.Kind.TheVariants.{Cms, SumaxSum, SumaxMax, Bloom, Mrac, Hll, FlagOr, FlagAnd}
-use Rattle.sketch_defs.specs.Answers.{cells_from, cells_found}
-use Rattle.readout.specs.declared.views.Side.TheVariants.{Live}
-use Rattle.readout.specs.PlacedTasks.{PlacedTask, no_place, place_at, live_bits, register_at, row_contents, rows_contents}
-use Rattle.sketch_defs.specs.Cells.{key_hash}
-use Rattle.sketch_defs.specs.Answers.{answer_of}
-use Rattle.task_filters.specs.Filters.{Pattern}
-use Rattle.key_mask.specs.Bytes.{and_bytes}
-use Rattle.key_mask.specs.Masks.{mask_bytes_of}
-use Rattle.hash_units.specs.Toeplitz.{hash_of}
-use Rattle.readout.specs.Lines.{query_line, answer_lines}
-use Rattle.readout.specs.Judging.{answers_keys, line_of_query}
+use Rattle.outside.specs.Told.{Stays}
+use Rattle.outside.specs.Sent.{CameInPart, Sends}
 use Rattle.outside.proofs.SentLemmas.{none_in_part}
 use Rattle.outside.proofs.ToldLemmas.{stays_same}
+use Rattle.addr_translate.specs.Blocks.{index_of}
+use Rattle.hash_units.specs.Toeplitz.{hash_of, row_hash_of}
+use Rattle.key_mask.specs.Bytes.{and_bytes}
+use Rattle.key_mask.specs.Masks.{mask_bytes_of}
+use Rattle.reg_file.specs.Registers.{Contents}
+use Rattle.sketch_defs.specs.declared.answers.Reply.{Reply}
+use Rattle.sketch_defs.specs.declared.kinds.Kind.TheVariants.{Mrac, Hll}
+use Rattle.sketch_defs.specs.Answers.{answer_of, cells_from, cells_found}
+use Rattle.sketch_defs.specs.Cells.{key_hash}
+use Rattle.task_filters.specs.Filters.{Pattern}
+use Rattle.readout.specs.declared.views.Side.TheVariants.{Live}
+use Rattle.readout.specs.PlacedTasks.{PlacedTask, no_place, place_at, part_in, live_bits, register_at, row_contents, rows_contents}
+use Rattle.readout.specs.Lines.{query_line}
+use Rattle.readout.specs.Answers.{Answer, line_of_query}
+use Rattle.readout.proofs.PieceLemmas.{sends_at_err}
 use Rattle.readout.proofs.CellLemmas.{told_more, told_all, told_then}
+use Rattle.readout.proofs.AnswerLemmas.{query_line_of, some_query_line}
 
 -- these cells are those of the rows before this one
 abbrev pub FoundSoFar : ℕ → PlacedTask → ℕ → List ℕ → Contents → Type 0
@@ -87,67 +88,39 @@ hash_as : (hash_key : List ℕ) (placed : PlacedTask) (vector : List ℕ) (h : �
 unfolding key_hash
 hash_as hash_key placed vector h is = is
 
-abbrev pub query_of : List ℕ → Pattern → PlacedTask → Contents → List ℕ
-query_of hash_key at placed told = line_of_query hash_key (live_bits placed) at placed.task (rows_contents told Live placed)
-
-line_as : (told : Contents) (hash_key : List ℕ) (at : Pattern) (placed : PlacedTask) (h : ℕ) (found line : List ℕ)
-    → h ≡ hash_of hash_key (and_bytes at.value (mask_bytes_of placed.task.key))
-    → line ≡ answer_lines placed.task.name (answer_of placed.task.kind found h)
-    → found ≡ cells_found h (live_bits placed) (rows_contents told Live placed)
-    → line ≡ query_of hash_key at placed told
-line_as told hash_key at placed h found line hashed is all =
+-- the reply is that of the cells that the registers tell
+line_as : (told : Contents) (hash_key : List ℕ) (at : Pattern) (placed : PlacedTask) (h : ℕ) (found : List ℕ) (reply : Reply)
+    → bytes_eq at.mask placed.task.key ≡ true → h ≡ hash_of hash_key (and_bytes at.value (mask_bytes_of placed.task.key))
+    → answer_of placed.task.kind found h ≡ Some reply → found ≡ cells_found h (live_bits placed) (rows_contents told Live placed)
+    → line_of_query hash_key at (part_in told placed) ≡ Ok (query_line placed.task.name reply)
+line_as told hash_key at placed h found reply keyed hashed is all =
     let hash = hash_as hash_key placed at.value h hashed in
-    is ∙ (ap (λ f. answer_lines placed.task.name (answer_of placed.task.kind f h)) all
-    ∙ ap (λ k. answer_lines placed.task.name (answer_of placed.task.kind (cells_found k (live_bits placed) (rows_contents told Live placed)) k)) hash)
+    query_line_of hash_key at (part_in told placed) reply keyed
+    (ap (λ k. answer_of placed.task.kind (cells_found k (live_bits placed) (rows_contents told Live placed)) k) (sym hash)
+    ∙ (ap (λ f. answer_of placed.task.kind f h) (sym all) ∙ is))
 
-pub query_sent : (cells : Option Contents) (a b : Option (List ℕ)) (hash_key : List ℕ) (at : Pattern) (placed : PlacedTask) (h : ℕ) (found line : List ℕ)
-    → h ≡ hash_of hash_key (and_bytes at.value (mask_bytes_of placed.task.key))
-    → line ≡ answer_lines placed.task.name (answer_of placed.task.kind found h)
+pub query_sent : {T E : Type 0} (result : Result T E) (cells : Option Contents) (a b : Option (List ℕ)) (hash_key : List ℕ) (at : Pattern) (placed : PlacedTask) (h : ℕ) (found line : List ℕ) (reply : Reply)
+    → bytes_eq at.mask placed.task.key ≡ true → h ≡ hash_of hash_key (and_bytes at.value (mask_bytes_of placed.task.key))
+    → answer_of placed.task.kind found h ≡ Some reply → line ≡ query_line placed.task.name reply
     → IfSome cells (λ told. found ≡ cells_found h (live_bits placed) (rows_contents told Live placed))
-    → Grows a line b → IfSome cells (λ told. Grows a (query_of hash_key at placed told) b)
-query_sent cells a b hash_key at placed h found line hashed is all grew =
-    told_then cells (λ told. found ≡ cells_found h (live_bits placed) (rows_contents told Live placed)) (λ told. Grows a (query_of hash_key at placed told) b)
-    (λ told p. subst (λ t. Grows a t b) (line_as told hash_key at placed h found line hashed is p) grew)
-    all
+    → Sends a line result b → IfSome cells (λ told. IfOk (line_of_query hash_key at (part_in told placed)) (λ l. Sends a l result b))
+query_sent result cells a b hash_key at placed h found line reply keyed hashed is put all sent =
+    told_then cells (λ told. found ≡ cells_found h (live_bits placed) (rows_contents told Live placed))
+    (λ told. IfOk (line_of_query hash_key at (part_in told placed)) (λ l. Sends a l result b))
+    (λ told p. subst (λ (answer : Answer). IfOk answer (λ l. Sends a l result b)) (sym (line_as told hash_key at placed h found reply keyed hashed is p))
+    (subst (λ l. Sends a l result b) put sent)) all
 
-pub query_part : (cells : Option Contents) (a b : Option (List ℕ)) (hash_key : List ℕ) (at : Pattern) (placed : PlacedTask) (h : ℕ) (found line : List ℕ)
-    → h ≡ hash_of hash_key (and_bytes at.value (mask_bytes_of placed.task.key))
-    → line ≡ answer_lines placed.task.name (answer_of placed.task.kind found h)
-    → IfSome cells (λ told. found ≡ cells_found h (live_bits placed) (rows_contents told Live placed))
-    → CameInPart a line b → IfSome cells (λ told. CameInPart a (query_of hash_key at placed told) b)
-query_part cells a b hash_key at placed h found line hashed is all part =
-    told_then cells (λ told. found ≡ cells_found h (live_bits placed) (rows_contents told Live placed)) (λ told. CameInPart a (query_of hash_key at placed told) b)
-    (λ told p. subst (λ t. CameInPart a t b) (line_as told hash_key at placed h found line hashed is p) part)
-    all
+some_line : (name : List ℕ) (reply : Reply) → 0 < length (query_line name reply)
+unfolding query_line
+some_line name reply = omega arith
 
--- a kind that answers keys has a line
-some_line : (kind : Kind) (name cells : List ℕ) (h : ℕ) → answers_keys kind ≡ true → 0 < length (answer_lines name (answer_of kind cells h))
-unfolding query_line answer_of
-some_line Cms name cells h keys = omega arith
-some_line SumaxSum name cells h keys = omega arith
-some_line SumaxMax name cells h keys = omega arith
-some_line Bloom name cells h keys = omega arith
-some_line Mrac name cells h keys = absurd (false≢true keys)
-some_line Hll name cells h keys = absurd (false≢true keys)
-some_line FlagOr name cells h keys = omega arith
-some_line FlagAnd name cells h keys = omega arith
-
-some_query : (hash_key : List ℕ) (at : Pattern) (placed : PlacedTask) (told : Contents) → answers_keys placed.task.kind ≡ true
-    → 0 < length (query_of hash_key at placed told)
-some_query hash_key at placed told keys =
-    let h = key_hash hash_key placed.task at.value in
-    some_line placed.task.kind placed.task.name (cells_found h (live_bits placed) (rows_contents told Live placed)) h keys
-
-pub query_unsent : (cells : Option Contents) (a : Option (List ℕ)) (hash_key : List ℕ) (at : Pattern) (placed : PlacedTask)
-    → answers_keys placed.task.kind ≡ true → IfSome cells (λ told. CameInPart a (query_of hash_key at placed told) a)
-query_unsent cells a hash_key at placed keys =
-    told_all cells (λ told. CameInPart a (query_of hash_key at placed told) a)
-    (λ told. none_in_part a a (query_of hash_key at placed told) (some_query hash_key at placed told keys) (stays_same a))
-
--- ---- kinds
-
-pub keys_no_counters : (kind : Kind) → answers_keys kind ≡ true → kind ≡ Mrac → ⊥
-keys_no_counters kind keys is = false≢true (rw is at keys)
-
-pub keys_no_ranks : (kind : Kind) → answers_keys kind ≡ true → kind ≡ Hll → ⊥
-keys_no_ranks kind keys is = false≢true (rw is at keys)
+pub query_unsent : {T E : Type 0} (result : Result T E) (cells : Option Contents) (a : Option (List ℕ)) (hash_key : List ℕ) (at : Pattern) (placed : PlacedTask)
+    → (placed.task.kind ≢ Mrac) → (placed.task.kind ≢ Hll) → bytes_eq at.mask placed.task.key ≡ true → IsErr result
+    → IfSome cells (λ told. IfOk (line_of_query hash_key at (part_in told placed)) (λ l. Sends a l result a))
+query_unsent result cells a hash_key at placed no_counters no_ranks keyed failed =
+    told_all cells (λ told. IfOk (line_of_query hash_key at (part_in told placed)) (λ l. Sends a l result a))
+    (λ told.
+    let line = some_query_line hash_key at (part_in told placed) no_counters no_ranks keyed in
+    subst (λ (answer : Answer). IfOk answer (λ l. Sends a l result a)) (sym line.1)
+    (sends_at_err result a a (query_line placed.task.name line.0) failed
+    (none_in_part a a (query_line placed.task.name line.0) (some_line placed.task.name line.0) (stays_same a))))

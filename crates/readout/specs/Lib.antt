@@ -1,4 +1,5 @@
-pub mod Judging
+pub mod Answers
 pub mod Lines
+pub mod Outcomes
+pub mod Parts
 pub mod PlacedTasks
-pub mod Stops

@@ -1,6 +1,7 @@
--- The live tasks of a switch with their places, and what registers tell of them.
-use Rattle.std.specs.Prelude.{◌≡◌, ℕ, ◌+◌, ◌^◌, ◌<◌, ◌≤◌, Bool, true, List, [], length, map, max, slice_index_or, replicate, Option, None, IfSome, option_map, unwrap_or, is_some}
-use Rattle.std.specs.List.{All, find, fold, range_with_len}
+-- What a view of a switch shows: its arrays, its tasks with their places, the units of its groups, and three numbers of each
+-- array; and what registers tell of the tasks.
+use Rattle.std.specs.Prelude.{◌≡◌, ℕ, ◌+◌, ◌^◌, ◌<◌, ◌≤◌, Bool, true, List, [], length, map, slice_index_or, replicate, Option, None, IfSome, option_map, unwrap_or, is_some}
+use Rattle.std.specs.List.{All, find, range_with_len}
 use Rattle.std.specs.Str.{bytes_eq}
 use Rattle.addr_translate.specs.Blocks.{Block}
 use Rattle.addr_translate.specs.Geometry.{Geometry, array_count, bits_of, greatest_bits}
@@ -14,11 +15,22 @@ use Rattle.sketch_defs.specs.Tasks.{Sketch}
 use Rattle.readout.specs.declared.views.Placed.{Placed}
 use Rattle.readout.specs.declared.views.Side.{Side}
 use Rattle.readout.specs.declared.views.Side.TheVariants.{Live, Frozen}
+use Rattle.readout.specs.Parts.{Rows, SketchPart}
 
--- a live task, and where each of its rows stands
+-- a live task with its present size, and where each of its rows stands
 pub record PlacedTask : Type 0 where
   pub task : Sketch
   pub places : List Placed
+
+-- `mask` is that of a unit of a group, and none where the unit is free. Of an array, `free` is how many registers are in no
+-- partition, `largest` how many the largest free partition has, and `rows` how many live rows stand on it
+pub record View : Type 0 where
+  pub geometry : Geometry
+  pub tasks : List PlacedTask
+  pub mask : ℕ → ℕ → Option (List ℕ)
+  pub free : ℕ → ℕ
+  pub largest : ℕ → ℕ
+  pub rows : ℕ → ℕ
 
 -- what stands where there is no task and no place
 abbrev pub no_block : Block
@@ -39,12 +51,19 @@ placed_task_at tasks at = slice_index_or tasks at no_placed_task
 abbrev pub place_at : PlacedTask → ℕ → Placed
 place_at placed row = slice_index_or placed.places row no_place
 
+-- a task of a view, and a row of it
+abbrev pub task_in : View → ℕ → PlacedTask
+task_in view at = placed_task_at view.tasks at
+
+abbrev pub place_in : View → ℕ → ℕ → Placed
+place_in view at row = place_at (task_in view at) row
+
 abbrev pub is_named : List ℕ → PlacedTask → Bool
 is_named name placed = bytes_eq placed.task.name name
 
 -- the live task of a name
-abbrev pub task_named : List ℕ → List PlacedTask → Option PlacedTask
-task_named name tasks = find (is_named name) tasks
+abbrev pub task_named : List ℕ → View → Option PlacedTask
+task_named name view = find (is_named name) view.tasks
 
 -- the cells of a row are 2 to this many
 abbrev pub live_bits : PlacedTask → ℕ
@@ -60,9 +79,9 @@ frozen_bits placed = frozen_bits_in (place_at placed 0)
 -- the task has partitions of this side
 abbrev pub HasSide : Side → PlacedTask → Type 0
 HasSide Live placed = Unit {0}
-HasSide Frozen placed = is_some (frozen_bits placed) ≡ true
+HasSide Frozen placed = is_some (place_at placed 0).frozen ≡ true
 
--- the partition of a row
+-- the partition of a row, which has one of this side
 abbrev pub block_of : Side → Placed → Block
 block_of Live place = place.region
 block_of Frozen place = unwrap_or place.frozen place.region
@@ -87,13 +106,24 @@ pub record IsPlacedTask (geometry : Geometry) (placed : PlacedTask) : Type 0 whe
   pub most : live_bits placed ≤ 20
   pub ranks : placed.task.kind ≡ Hll → 4 ≤ live_bits placed
 
-abbrev pub IsFit : Geometry → List PlacedTask → Type 0
-IsFit geometry tasks = All (IsPlacedTask geometry) tasks
+abbrev pub IsFit : View → Type 0
+IsFit view = All (IsPlacedTask view.geometry) view.tasks
 
 -- the register file has the arrays of the geometry, each with room for the largest
 pub record IsShaped (geometry : Geometry) (dims : Dims) : Type 0 where
   pub arrays : dims.arrays ≡ array_count geometry
   pub bits : dims.bits ≡ greatest_bits geometry
+
+-- the registers of a task's partitions of a side can be read
+pub record CanRead (view : View) (dims : Dims) (at : ℕ) (side : Side) : Type 0 where
+  pub fit : IsFit view
+  pub shaped : IsShaped view.geometry dims
+  pub task : at < length view.tasks
+  pub has_side : HasSide side (task_in view at)
+
+-- the rows of each task have at most 2 to this many cells
+abbrev pub AreWithin : ℕ → View → Type 0
+AreWithin bits view = All (λ placed. live_bits placed ≤ bits) view.tasks
 
 -- the register at an index of a row's partition
 abbrev pub register_at : Contents → Side → Placed → ℕ → ℕ
@@ -106,3 +136,17 @@ row_contents cells side place = map (register_at cells side place) (range_with_l
 -- and of all rows of a task
 unfoldable pub rows_contents : Contents → Side → PlacedTask → List (List ℕ)
 rows_contents cells side placed = map (row_contents cells side) placed.places
+
+abbrev pub rows_of_side : Contents → Side → PlacedTask → Rows
+rows_of_side cells side placed = record { bits = (block_of side (place_at placed 0)).bits; cells = rows_contents cells side placed }
+
+-- and of the whole task
+abbrev pub part_in : Contents → PlacedTask → SketchPart
+part_in cells placed = record {
+  task = placed.task;
+  live = rows_of_side cells Live placed;
+  frozen = option_map (λ (block : Block). rows_of_side cells Frozen placed) (place_at placed 0).frozen;
+}
+
+abbrev pub parts_in : Contents → View → List SketchPart
+parts_in cells view = map (part_in cells) view.tasks

@@ -1,21 +1,21 @@
 //! The cells of a task, as lines.
-ghost use Rattle.std.specs.Prelude.{◌≡◌, ◌++◌, ◌^◌, ◌<◌, ◌≤◌, length, IfSome, IfErr, OnOk, OnErr};
-ghost use Rattle.outside.specs.Told.{Stays, Grows};
-ghost use Rattle.outside.specs.Sent.{CameSoFar, CameInFront, CameInPart};
-ghost use Rattle.readout.specs.PlacedTasks.{placed_task_at, place_at, block_of, HasSide, IsFit, IsShaped, register_at, row_contents, rows_contents};
-ghost use Rattle.readout.specs.Lines.{cell_line, row_lines, rows_lines};
+ghost use Rattle.std.specs.Prelude.{◌≡◌, ◌^◌, ◌<◌, ◌≤◌, ◌++◌, length, [], IfSome, IfErr};
+ghost use Rattle.std.specs.List.{flat_map, enumerate_from};
+ghost use Rattle.outside.specs.Sent.{Sends};
+ghost use Rattle.reg_file.specs.Reads.{OnlyReads};
 ghost use Rattle.sketch_lower.specs.Operations.{start_of};
-ghost use Rattle.readout.specs.Judging.{head_of, lines_of_cells, side_size};
-ghost use Rattle.readout.specs.Stops.{IsStopOf};
+ghost use Rattle.readout.specs.PlacedTasks.{CanRead, IsFit, task_in, place_in, block_of, register_at, row_contents, rows_contents, rows_of_side};
+ghost use Rattle.readout.specs.Lines.{cell_line, row_lines, head_line};
+ghost use Rattle.readout.specs.Answers.{lines_of_rows};
+ghost use Rattle.readout.specs.Outcomes.{Gathers, IsStopOf};
 
-use crate::faults::ReadFault;
-use crate::lines::{cell_line, head_line};
-use crate::pieces::{Piece, end_block, gather};
+use crate::lines::{put_cell, put_head};
+use crate::pieces::{Piece, end_block, make_room};
 use crate::places::{cell_count, first_place, part_of, row_count};
+use crate::refusals::Stop;
 use crate::views::{Side, TaskView};
 use fm_io::Sink;
-use key_mask::Line;
-use reg_file::{DeviceFault, RegFile};
+use reg_file::RegFile;
 use sketch_lower::start_value;
 
 /// The partitions of a task, which started at `start`.
@@ -26,7 +26,7 @@ struct Source {
     start: u32,
 }
 
-/// Gathers the line of one cell.
+/// Gathers the line of one cell, which has none where it is as it started.
 fn gather_cell<V: TaskView, R: RegFile, S: Sink>(
     view: &V,
     regs: &mut R,
@@ -35,31 +35,24 @@ fn gather_cell<V: TaskView, R: RegFile, S: Sink>(
     index: u32,
     sink: &mut S,
     piece: &mut Piece,
-) -> Result<(), ReadFault>
-    requires fit { IsFit (V.geometry view.now) (V.tasks view.now) }
-    requires shaped { IsShaped (V.geometry view.now) (R.dims regs.old) }
-    requires task { source.task < length (V.tasks view.now) }
-    requires row { row < length (placed_task_at (V.tasks view.now) source.task).places }
-    requires side { HasSide source.side (placed_task_at (V.tasks view.now) source.task) }
-    requires index { index < 2 ^ (block_of source.side (place_at (placed_task_at (V.tasks view.now) source.task) row)).bits }
+) -> Result<(), Stop>
+    requires readable { CanRead (V.seen view.now) (R.dims regs.old) source.task source.side }
+    requires row { row < length (task_in (V.seen view.now) source.task).places }
+    requires index { index < 2 ^ (block_of source.side (place_in (V.seen view.now) source.task row)).bits }
+    ensures reads { OnlyReads R.RegFile regs.old regs.new }
     ensures later { S.faults sink.old ≤ S.faults sink.new }
-    ensures regs_later { R.faults regs.old ≤ R.faults regs.new }
-    ensures cause { IfErr result (IsStopOf (R.faults regs.old) (R.faults regs.new) (S.faults sink.old) (S.faults sink.new)) }
-    ensures dims { R.dims regs.new ≡ R.dims regs.old }
-    ensures contents { Stays (R.contents regs.old) (R.contents regs.new) }
-    ensures calls { Stays (R.calls regs.old) (R.calls regs.new) }
-    ensures sent { OnOk result (IfSome (R.contents regs.new) (λ told. CameSoFar (S.sent sink.old)
-        (piece.old.bytes ++ cell_line source.start row index (register_at told source.side (place_at (placed_task_at (V.tasks view.now) source.task) row) index))
-        piece.new.bytes (S.sent sink.new))) }
-    ensures part { OnErr result (IfSome (R.contents regs.new) (λ told. CameInFront (S.sent sink.old)
-        (piece.old.bytes ++ cell_line source.start row index (register_at told source.side (place_at (placed_task_at (V.tasks view.now) source.task) row) index))
-        (S.sent sink.new))) }
+    ensures cause { IfErr result (IsStopOf R.RegFile S.Sink regs.old regs.new sink.old sink.new) }
+    ensures sent { IfSome (R.contents regs.new) (λ told. Gathers (S.sent sink.old) piece.old.bytes
+        (cell_line source.start row index (register_at told source.side (place_in (V.seen view.now) source.task row) index))
+        result piece.new.bytes (S.sent sink.new)) }
 {
-    match view.cell(regs, source.task, source.side, row, index) {
-        Ok(value) if value == source.start => Ok(()),
-        Ok(value) => gather(sink, piece, cell_line(row, index, value).as_str()),
-        Err(DeviceFault) => Err(ReadFault::Device),
+    let value = view.cell(regs, source.task, source.side, row, index)?;
+    if value == source.start {
+        return Ok(());
     }
+    make_room(sink, piece)?;
+    put_cell(piece, row, index, value);
+    Ok(())
 }
 
 /// Gathers the lines of a row, each cell of which is read once.
@@ -70,31 +63,19 @@ fn gather_row<V: TaskView, R: RegFile, S: Sink>(
     row: u32,
     sink: &mut S,
     piece: &mut Piece,
-) -> Result<(), ReadFault>
-    requires fit { IsFit (V.geometry view.now) (V.tasks view.now) }
-    requires shaped { IsShaped (V.geometry view.now) (R.dims regs.old) }
-    requires task { source.task < length (V.tasks view.now) }
-    requires row { row < length (placed_task_at (V.tasks view.now) source.task).places }
-    requires side { HasSide source.side (placed_task_at (V.tasks view.now) source.task) }
+) -> Result<(), Stop>
+    requires readable { CanRead (V.seen view.now) (R.dims regs.old) source.task source.side }
+    requires row { row < length (task_in (V.seen view.now) source.task).places }
+    ensures reads { OnlyReads R.RegFile regs.old regs.new }
     ensures later { S.faults sink.old ≤ S.faults sink.new }
-    ensures regs_later { R.faults regs.old ≤ R.faults regs.new }
-    ensures cause { IfErr result (IsStopOf (R.faults regs.old) (R.faults regs.new) (S.faults sink.old) (S.faults sink.new)) }
-    ensures dims { R.dims regs.new ≡ R.dims regs.old }
-    ensures contents { Stays (R.contents regs.old) (R.contents regs.new) }
-    ensures calls { Stays (R.calls regs.old) (R.calls regs.new) }
-    ensures sent { OnOk result (IfSome (R.contents regs.new) (λ told. CameSoFar (S.sent sink.old)
-        (piece.old.bytes ++ row_lines source.start row (row_contents told source.side (place_at (placed_task_at (V.tasks view.now) source.task) row)))
-        piece.new.bytes (S.sent sink.new))) }
-    ensures part { OnErr result (IfSome (R.contents regs.new) (λ told. CameInFront (S.sent sink.old)
-        (piece.old.bytes ++ row_lines source.start row (row_contents told source.side (place_at (placed_task_at (V.tasks view.now) source.task) row)))
-        (S.sent sink.new))) }
+    ensures cause { IfErr result (IsStopOf R.RegFile S.Sink regs.old regs.new sink.old sink.new) }
+    ensures sent { IfSome (R.contents regs.new) (λ told. Gathers (S.sent sink.old) piece.old.bytes
+        (row_lines source.start row (row_contents told source.side (place_in (V.seen view.now) source.task row)))
+        result piece.new.bytes (S.sent sink.new)) }
 {
     let size = cell_count(part_of(view.placed(source.task, row), source.side));
     'cells: for index in 0..size {
-        match gather_cell(view, regs, source, row, index, sink, piece) {
-            Ok(()) => {}
-            Err(fault) => return Err(fault),
-        }
+        gather_cell(view, regs, source, row, index, sink, piece)?;
     }
     Ok(())
 }
@@ -107,52 +88,42 @@ fn gather_rows<V: TaskView, R: RegFile, S: Sink>(
     rows: u32,
     sink: &mut S,
     piece: &mut Piece,
-) -> Result<(), ReadFault>
-    requires fit { IsFit (V.geometry view.now) (V.tasks view.now) }
-    requires shaped { IsShaped (V.geometry view.now) (R.dims regs.old) }
-    requires task { source.task < length (V.tasks view.now) }
-    requires rows { rows ≡ length (placed_task_at (V.tasks view.now) source.task).places }
-    requires side { HasSide source.side (placed_task_at (V.tasks view.now) source.task) }
+) -> Result<(), Stop>
+    requires readable { CanRead (V.seen view.now) (R.dims regs.old) source.task source.side }
+    requires rows { rows ≡ length (task_in (V.seen view.now) source.task).places }
+    ensures reads { OnlyReads R.RegFile regs.old regs.new }
     ensures later { S.faults sink.old ≤ S.faults sink.new }
-    ensures regs_later { R.faults regs.old ≤ R.faults regs.new }
-    ensures cause { IfErr result (IsStopOf (R.faults regs.old) (R.faults regs.new) (S.faults sink.old) (S.faults sink.new)) }
-    ensures dims { R.dims regs.new ≡ R.dims regs.old }
-    ensures contents { Stays (R.contents regs.old) (R.contents regs.new) }
-    ensures calls { Stays (R.calls regs.old) (R.calls regs.new) }
-    ensures sent { OnOk result (IfSome (R.contents regs.new) (λ told. CameSoFar (S.sent sink.old)
-        (piece.old.bytes ++ rows_lines source.start 0 (rows_contents told source.side (placed_task_at (V.tasks view.now) source.task)))
-        piece.new.bytes (S.sent sink.new))) }
-    ensures part { OnErr result (IfSome (R.contents regs.new) (λ told. CameInFront (S.sent sink.old)
-        (piece.old.bytes ++ rows_lines source.start 0 (rows_contents told source.side (placed_task_at (V.tasks view.now) source.task)))
-        (S.sent sink.new))) }
+    ensures cause { IfErr result (IsStopOf R.RegFile S.Sink regs.old regs.new sink.old sink.new) }
+    ensures sent { IfSome (R.contents regs.new) (λ told. Gathers (S.sent sink.old) piece.old.bytes
+        (flat_map (λ at. row_lines source.start at.0 at.1) (enumerate_from 0 (rows_contents told source.side (task_in (V.seen view.now) source.task))))
+        result piece.new.bytes (S.sent sink.new)) }
 {
     'rows: for row in 0..rows {
-        match gather_row(view, regs, source, row, sink, piece) {
-            Ok(()) => {}
-            Err(fault) => return Err(fault),
-        }
+        gather_row(view, regs, source, row, sink, piece)?;
     }
     Ok(())
 }
 
-/// What the cells of the task started at.
-fn start_of<V: TaskView>(view: &V, at: usize) -> u32
-    requires { at < length (V.tasks view.now) }
-    ensures { result ≡ start_of (placed_task_at (V.tasks view.now) at).task.kind }
+/// The piece that begins with the first line of the block of the task.
+fn begin_cells<V: TaskView>(view: &V, source: Source) -> Piece
+    requires fit { IsFit (V.seen view.now) }
+    requires task { source.task < length (V.seen view.now).tasks }
+    ensures { let placed = task_in (V.seen view.now) source.task in result.bytes ≡
+        head_line source.side placed.task.name (length placed.places) (2 ^ (block_of source.side (place_in (V.seen view.now) source.task 0)).bits) source.start }
 {
-    start_value(view.task(at).kind())
+    let task = view.task(source.task);
+    let size = cell_count(part_of(first_place(view, source.task), source.side));
+    let mut piece = Piece::new();
+    put_head(&mut piece, source.side, task.name(), row_count(task), size, source.start);
+    piece
 }
 
-/// The line that begins the block of the task.
-fn head_of<V: TaskView>(view: &V, at: usize, side: Side) -> Line
-    requires fit { IsFit (V.geometry view.now) (V.tasks view.now) }
-    requires task { at < length (V.tasks view.now) }
-    requires side { HasSide side (placed_task_at (V.tasks view.now) at) }
-    ensures { result.bytes ≡ head_of side (placed_task_at (V.tasks view.now) at) }
+/// What the cells of the task started at.
+fn start_of<V: TaskView>(view: &V, at: usize) -> u32
+    requires { at < length (V.seen view.now).tasks }
+    ensures { result ≡ start_of (task_in (V.seen view.now) at).task.kind }
 {
-    let task = view.task(at);
-    let size = cell_count(part_of(first_place(view, at), side));
-    head_line(side, task.name(), row_count(task), size, start_of(view, at))
+    start_value(view.task(at).kind())
 }
 
 /// Sends the cells of a task, row by row.
@@ -163,21 +134,13 @@ pub(crate) fn send_cells<V: TaskView, R: RegFile, S: Sink>(
     at: usize,
     side: Side,
     sink: &mut S,
-) -> Result<(), ReadFault>
-    requires fit { IsFit (V.geometry view.now) (V.tasks view.now) }
-    requires shaped { IsShaped (V.geometry view.now) (R.dims regs.old) }
-    requires task { at < length (V.tasks view.now) }
-    requires side { HasSide side (placed_task_at (V.tasks view.now) at) }
+) -> Result<(), Stop>
+    requires { CanRead (V.seen view.now) (R.dims regs.old) at side }
+    ensures reads { OnlyReads R.RegFile regs.old regs.new }
     ensures later { S.faults sink.old ≤ S.faults sink.new }
-    ensures regs_later { R.faults regs.old ≤ R.faults regs.new }
-    ensures cause { IfErr result (IsStopOf (R.faults regs.old) (R.faults regs.new) (S.faults sink.old) (S.faults sink.new)) }
-    ensures dims { R.dims regs.new ≡ R.dims regs.old }
-    ensures contents { Stays (R.contents regs.old) (R.contents regs.new) }
-    ensures calls { Stays (R.calls regs.old) (R.calls regs.new) }
-    ensures sent { let placed = placed_task_at (V.tasks view.now) at in OnOk result (IfSome (R.contents regs.new) (λ told. Grows (S.sent sink.old)
-        (lines_of_cells side (side_size side placed) placed.task (rows_contents told side placed)) (S.sent sink.new))) }
-    ensures part { let placed = placed_task_at (V.tasks view.now) at in OnErr result (IfSome (R.contents regs.new) (λ told. CameInPart (S.sent sink.old)
-        (lines_of_cells side (side_size side placed) placed.task (rows_contents told side placed)) (S.sent sink.new))) }
+    ensures cause { IfErr result (IsStopOf R.RegFile S.Sink regs.old regs.new sink.old sink.new) }
+    ensures sent { let placed = task_in (V.seen view.now) at in IfSome (R.contents regs.new) (λ told. Sends (S.sent sink.old)
+        (lines_of_rows side placed.task (rows_of_side told side placed)) result (S.sent sink.new)) }
 {
     let source = Source {
         task: at,
@@ -185,14 +148,8 @@ pub(crate) fn send_cells<V: TaskView, R: RegFile, S: Sink>(
         start: start_of(view, at),
     };
     let rows = row_count(view.task(at));
-    let mut piece = Piece::new();
-    match gather(sink, &mut piece, head_of(view, at, side).as_str()) {
-        Ok(()) => {}
-        Err(fault) => return Err(fault),
-    }
-    match gather_rows(view, regs, source, rows, sink, &mut piece) {
-        Ok(()) => {}
-        Err(fault) => return Err(fault),
-    }
-    end_block(sink, &mut piece)
+    let mut piece = begin_cells(view, source);
+    gather_rows(view, regs, source, rows, sink, &mut piece)?;
+    end_block(sink, &mut piece)?;
+    Ok(())
 }

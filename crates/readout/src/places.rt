@@ -1,6 +1,6 @@
 //! Where a task stands, and how many cells it has there.
 ghost use Rattle.std.specs.Prelude.{◌≡◌, ◌^◌, ◌<◌, ◌≤◌, length};
-ghost use Rattle.readout.specs.PlacedTasks.{placed_task_at, place_at, block_of, IsFit};
+ghost use Rattle.readout.specs.PlacedTasks.{task_in, place_in, block_of, IsFit};
 
 use crate::views::{Placed, Side, TaskView};
 use addr_translate::Region;
@@ -9,10 +9,10 @@ use sketch_defs::Task;
 /// Where the first row of a task stands.
 #[tactic(auto, using(crate::proofs::PlacedTaskLemmas::rows_placed))]
 pub(crate) fn first_place<V: TaskView>(view: &V, at: usize) -> Placed
-    requires fit { IsFit (V.geometry view.now) (V.tasks view.now) }
-    requires task { at < length (V.tasks view.now) }
-    ensures value { result ≡ place_at (placed_task_at (V.tasks view.now) at) 0 }
-    ensures exists { 0 < length (placed_task_at (V.tasks view.now) at).places }
+    requires fit { IsFit (V.seen view.now) }
+    requires task { at < length (V.seen view.now).tasks }
+    ensures value { result ≡ place_in (V.seen view.now) at 0 }
+    ensures exists { 0 < length (task_in (V.seen view.now) at).places }
 {
     let rows = row_count(view.task(at));
     prove!(0 < rows);

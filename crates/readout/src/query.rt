@@ -1,19 +1,22 @@
 //! What a task answers for a key value.
-ghost use Rattle.std.specs.Prelude.{◌≡◌, ◌<◌, ◌≤◌, length, slice_index, true, IfSome, IfErr, IfOk, OnOk, OnErr};
-ghost use Rattle.outside.specs.Told.{Stays, Grows};
-ghost use Rattle.outside.specs.Sent.{CameInPart};
+ghost use Rattle.std.specs.Prelude.{◌≡◌, ◌≢◌, ◌<◌, ◌≤◌, length, slice_index, Ok, true, IfSome, IfErr, IfOk};
+ghost use Rattle.std.specs.Str.{bytes_eq};
+ghost use Rattle.outside.specs.Faults.{HasCause};
+ghost use Rattle.outside.specs.Sent.{Sends};
 ghost use Rattle.addr_translate.specs.Blocks.{index_of};
 ghost use Rattle.hash_units.specs.Toeplitz.{row_hash_of};
+ghost use Rattle.reg_file.specs.Reads.{OnlyReads};
+ghost use Rattle.sketch_defs.specs.declared.kinds.Kind.TheVariants.{Mrac, Hll};
 ghost use Rattle.sketch_defs.specs.Answers.{cells_found};
 ghost use Rattle.readout.specs.declared.views.Side.TheVariants.{Live};
-ghost use Rattle.readout.specs.PlacedTasks.{placed_task_at, place_at, live_bits, IsFit, IsShaped, row_contents, rows_contents};
-ghost use Rattle.readout.specs.Judging.{answers_keys, line_of_query};
-ghost use Rattle.readout.specs.Stops.{IsDeviceOf, IsStopOf};
+ghost use Rattle.readout.specs.PlacedTasks.{CanRead, task_in, place_in, live_bits, row_contents, rows_contents, part_in};
+ghost use Rattle.readout.specs.Answers.{line_of_query};
+ghost use Rattle.readout.specs.Outcomes.{IsStopOf};
 
-use crate::faults::ReadFault;
-use crate::lines::query_line;
-use crate::pieces::send_line;
+use crate::lines::put_query;
+use crate::pieces::{Piece, send_piece};
 use crate::places::{bits_of, row_count};
+use crate::refusals::Stop;
 use crate::views::{Side, TaskView};
 use addr_translate::index;
 use arrayvec::ArrayVec;
@@ -36,25 +39,17 @@ fn found_cell<V: TaskView, R: RegFile>(
     task: usize,
     row: u32,
     h: u32,
-) -> Result<u32, ReadFault>
-    requires fit { IsFit (V.geometry view.now) (V.tasks view.now) }
-    requires shaped { IsShaped (V.geometry view.now) (R.dims regs.old) }
-    requires task { task < length (V.tasks view.now) }
-    requires row { row < length (placed_task_at (V.tasks view.now) task).places }
+) -> Result<u32, DeviceFault>
+    requires readable { CanRead (V.seen view.now) (R.dims regs.old) task Live }
+    requires row { row < length (task_in (V.seen view.now) task).places }
     requires few { row < 4 }
-    ensures later { R.faults regs.old ≤ R.faults regs.new }
-    ensures cause { IfErr result (IsDeviceOf (R.faults regs.old) (R.faults regs.new)) }
-    ensures dims { R.dims regs.new ≡ R.dims regs.old }
-    ensures contents { Stays (R.contents regs.old) (R.contents regs.new) }
-    ensures calls { Stays (R.calls regs.old) (R.calls regs.new) }
+    ensures reads { OnlyReads R.RegFile regs.old regs.new }
+    ensures cause { HasCause (R.faults regs.old) (R.faults regs.new) result }
     ensures value { IfOk result (λ value. IfSome (R.contents regs.new) (λ told.
-        value ≡ slice_index (row_contents told Live (place_at (placed_task_at (V.tasks view.now) task) row)) (index_of (row_hash_of h row) (live_bits (placed_task_at (V.tasks view.now) task))))) }
+        value ≡ slice_index (row_contents told Live (place_in (V.seen view.now) task row)) (index_of (row_hash_of h row) (live_bits (task_in (V.seen view.now) task))))) }
 {
     let bits = bits_of(view.placed(task, row).region);
-    match view.cell(regs, task, Side::Live, row, index(row_hash(h, row), bits)) {
-        Ok(value) => Ok(value),
-        Err(DeviceFault) => Err(ReadFault::Device),
-    }
+    view.cell(regs, task, Side::Live, row, index(row_hash(h, row), bits))
 }
 
 /// Reads the cell of each row at a key's hash.
@@ -64,33 +59,25 @@ fn found_cells<V: TaskView, R: RegFile>(
     task: usize,
     rows: u32,
     h: u32,
-) -> Result<Found, ReadFault>
-    requires fit { IsFit (V.geometry view.now) (V.tasks view.now) }
-    requires shaped { IsShaped (V.geometry view.now) (R.dims regs.old) }
-    requires task { task < length (V.tasks view.now) }
-    requires rows { rows ≡ length (placed_task_at (V.tasks view.now) task).places }
+) -> Result<Found, DeviceFault>
+    requires readable { CanRead (V.seen view.now) (R.dims regs.old) task Live }
+    requires rows { rows ≡ length (task_in (V.seen view.now) task).places }
     requires few { rows ≤ 4 }
-    ensures later { R.faults regs.old ≤ R.faults regs.new }
-    ensures cause { IfErr result (IsDeviceOf (R.faults regs.old) (R.faults regs.new)) }
-    ensures dims { R.dims regs.new ≡ R.dims regs.old }
-    ensures contents { Stays (R.contents regs.old) (R.contents regs.new) }
-    ensures calls { Stays (R.calls regs.old) (R.calls regs.new) }
+    ensures reads { OnlyReads R.RegFile regs.old regs.new }
+    ensures cause { HasCause (R.faults regs.old) (R.faults regs.new) result }
     ensures count { IfOk result (λ found. length found.items ≡ rows) }
     ensures found { IfOk result (λ found. IfSome (R.contents regs.new) (λ told.
-        found.items ≡ cells_found h (live_bits (placed_task_at (V.tasks view.now) task)) (rows_contents told Live (placed_task_at (V.tasks view.now) task)))) }
+        found.items ≡ cells_found h (live_bits (task_in (V.seen view.now) task)) (rows_contents told Live (task_in (V.seen view.now) task)))) }
 {
     let mut found = Found::new();
     'rows: for row in 0..rows {
-        match found_cell(view, regs, task, row, h) {
-            Ok(cell) => found.push(cell),
-            Err(fault) => return Err(fault),
-        }
+        found.push(found_cell(view, regs, task, row, h)?);
     }
     Ok(found)
 }
 
 /// Sends what the task answers for the key value.
-#[tactic(auto, using(crate::proofs::PlacedTaskLemmas::rows_placed, crate::proofs::QueryLemmas::keys_no_counters, crate::proofs::QueryLemmas::keys_no_ranks))]
+#[tactic(auto, using(crate::proofs::PlacedTaskLemmas::rows_placed))]
 pub(crate) fn send_query<V: TaskView, R: RegFile, S: Sink>(
     view: &V,
     regs: &mut R,
@@ -98,29 +85,23 @@ pub(crate) fn send_query<V: TaskView, R: RegFile, S: Sink>(
     number: usize,
     at: &Filter,
     sink: &mut S,
-) -> Result<(), ReadFault>
-    requires fit { IsFit (V.geometry view.now) (V.tasks view.now) }
-    requires shaped { IsShaped (V.geometry view.now) (R.dims regs.old) }
-    requires task { number < length (V.tasks view.now) }
-    requires kind { answers_keys (placed_task_at (V.tasks view.now) number).task.kind ≡ true }
+) -> Result<(), Stop>
+    requires readable { CanRead (V.seen view.now) (R.dims regs.old) number Live }
+    requires no_counters { (task_in (V.seen view.now) number).task.kind ≢ Mrac }
+    requires no_ranks { (task_in (V.seen view.now) number).task.kind ≢ Hll }
+    requires keyed { bytes_eq at.now.mask (task_in (V.seen view.now) number).task.key ≡ true }
+    ensures reads { OnlyReads R.RegFile regs.old regs.new }
     ensures later { S.faults sink.old ≤ S.faults sink.new }
-    ensures regs_later { R.faults regs.old ≤ R.faults regs.new }
-    ensures cause { IfErr result (IsStopOf (R.faults regs.old) (R.faults regs.new) (S.faults sink.old) (S.faults sink.new)) }
-    ensures dims { R.dims regs.new ≡ R.dims regs.old }
-    ensures contents { Stays (R.contents regs.old) (R.contents regs.new) }
-    ensures calls { Stays (R.calls regs.old) (R.calls regs.new) }
-    ensures sent { let placed = placed_task_at (V.tasks view.now) number in OnOk result (IfSome (R.contents regs.new) (λ told. Grows (S.sent sink.old)
-        (line_of_query hash_key.now (live_bits placed) at.now placed.task (rows_contents told Live placed)) (S.sent sink.new))) }
-    ensures part { let placed = placed_task_at (V.tasks view.now) number in OnErr result (IfSome (R.contents regs.new) (λ told. CameInPart (S.sent sink.old)
-        (line_of_query hash_key.now (live_bits placed) at.now placed.task (rows_contents told Live placed)) (S.sent sink.new))) }
+    ensures cause { IfErr result (IsStopOf R.RegFile S.Sink regs.old regs.new sink.old sink.new) }
+    ensures sent { IfSome (R.contents regs.new) (λ told. IfOk (line_of_query hash_key.now at.now (part_in told (task_in (V.seen view.now) number)))
+        (λ line. Sends (S.sent sink.old) line result (S.sent sink.new))) }
 {
     let task = view.task(number);
     let h = hash(hash_key, at.value(), task.key());
-    match found_cells(view, regs, number, row_count(task), h) {
-        Ok(found) => {
-            let reply = answer(task.kind(), found.as_slice(), h);
-            send_line(sink, &query_line(task.name(), reply))
-        }
-        Err(fault) => Err(fault),
-    }
+    let found = found_cells(view, regs, number, row_count(task), h)?;
+    let reply = answer(task.kind(), found.as_slice(), h);
+    let mut piece = Piece::new();
+    put_query(&mut piece, task.name(), reply);
+    send_piece(sink, &piece)?;
+    Ok(())
 }

@@ -1,18 +1,25 @@
-//! The read-outs of tasks.
-ghost use Rattle.std.specs.Prelude.{◌≡◌, ◌≤◌, IfOk, IfSome, IsErrOf};
-ghost use Rattle.outside.specs.Faults.{Rose};
-ghost use Rattle.outside.specs.Told.{Stays};
-ghost use Rattle.readout.specs.declared.views.Side.TheVariants.{Live};
-ghost use Rattle.readout.specs.PlacedTasks.{PlacedTask, task_named, live_bits, IsFit, IsShaped, rows_contents};
-ghost use Rattle.readout.specs.Judging.{judged_cells, judged_query, judged_dist, judged_card, side_size, lines_of_cells, line_of_query, lines_of_dist, line_of_card, IsJudged, SendsJudged};
+//! The read-outs of a switch.
+ghost use Rattle.std.specs.Prelude.{◌≡◌, ◌≤◌, Ok, IfOk, IfErr, IfSome};
+ghost use Rattle.outside.specs.Sent.{Sends};
+ghost use Rattle.outside.specs.Faults.{HasCause};
+ghost use Rattle.reg_file.specs.Registers.{Contents};
+ghost use Rattle.reg_file.specs.Reads.{OnlyReads};
+ghost use Rattle.readout.specs.PlacedTasks.{PlacedTask, task_named, live_bits, parts_in, IsFit, IsShaped, AreWithin};
+ghost use Rattle.readout.specs.Lines.{show_lines, stat_lines};
+ghost use Rattle.readout.specs.Answers.{answer_by, answer_to, lines_of_cells, line_of_query, lines_of_dist, line_of_card};
+ghost use Rattle.readout.specs.Outcomes.{Replies, IsStopOf, outcome_of};
 
 use crate::OutOfMemory;
 use crate::card::send_card;
 use crate::cells::send_cells;
 use crate::dist::send_dist;
-use crate::faults::ReadFault;
+use crate::faults::{ReadFault, split};
 use crate::judging::{judge_card, judge_cells, judge_dist, judge_query};
 use crate::query::send_query;
+use crate::refusals::{Refusal, Stop};
+use crate::requests::{Ask, Request};
+use crate::show::send_show;
+use crate::stat::send_stat;
 use crate::views::{Side, TaskView};
 use fm_io::Sink;
 use hash_units::HashKey;
@@ -61,23 +68,17 @@ impl Readout {
         side: Side,
         sink: &mut S,
     ) -> Result<(), ReadFault>
-        requires fit { IsFit (V.geometry view.now) (V.tasks view.now) }
-        requires shaped { IsShaped (V.geometry view.now) (R.dims regs.old) }
-        ensures verdict { IsJudged (judged_cells side (task_named name.now (V.tasks view.now))) result }
-        ensures sent { SendsJudged
-            (λ (placed : PlacedTask) told. lines_of_cells side (side_size side placed) placed.task (rows_contents told side placed))
-            (judged_cells side (task_named name.now (V.tasks view.now)))
-            (R.contents regs.new) (S.sent sink.old) result (S.sent sink.new) }
-        ensures device { IsErrOf result ReadFault.Device → Rose (R.faults regs.old) (R.faults regs.new) }
-        ensures write { IsErrOf result ReadFault.Write → Rose (S.faults sink.old) (S.faults sink.new) }
+        requires fit { IsFit (V.seen view.now) }
+        requires shaped { IsShaped (V.seen view.now).geometry (R.dims regs.old) }
+        ensures replies { Replies (λ told. answer_by name.now (lines_of_cells side) (parts_in told (V.seen view.now)))
+            (R.contents regs.new) (S.sent sink.old) (outcome_of result) (S.sent sink.new) }
+        ensures cause { IfErr (outcome_of result) (IsStopOf R.RegFile S.Sink regs.old regs.new sink.old sink.new) }
         ensures later { S.faults sink.old ≤ S.faults sink.new }
-        ensures regs_later { R.faults regs.old ≤ R.faults regs.new }
-        ensures dims { R.dims regs.new ≡ R.dims regs.old }
-        ensures contents { Stays (R.contents regs.old) (R.contents regs.new) }
-        ensures calls { Stays (R.calls regs.old) (R.calls regs.new) }
+        ensures reads { OnlyReads R.RegFile regs.old regs.new }
     {
         let at = judge_cells(view, name, side)?;
-        send_cells(view, regs, at, side, sink)
+        send_cells(view, regs, at, side, sink)?;
+        Ok(())
     }
 
     /// Tells what a task answers for a key value, which has the fields of the task's key. One cell
@@ -91,23 +92,17 @@ impl Readout {
         at: &Filter,
         sink: &mut S,
     ) -> Result<(), ReadFault>
-        requires fit { IsFit (V.geometry view.now) (V.tasks view.now) }
-        requires shaped { IsShaped (V.geometry view.now) (R.dims regs.old) }
-        ensures verdict { IsJudged (judged_query at.now (task_named name.now (V.tasks view.now))) result }
-        ensures sent { SendsJudged
-            (λ (placed : PlacedTask) told. line_of_query hash_key.now (live_bits placed) at.now placed.task (rows_contents told Live placed))
-            (judged_query at.now (task_named name.now (V.tasks view.now)))
-            (R.contents regs.new) (S.sent sink.old) result (S.sent sink.new) }
-        ensures device { IsErrOf result ReadFault.Device → Rose (R.faults regs.old) (R.faults regs.new) }
-        ensures write { IsErrOf result ReadFault.Write → Rose (S.faults sink.old) (S.faults sink.new) }
+        requires fit { IsFit (V.seen view.now) }
+        requires shaped { IsShaped (V.seen view.now).geometry (R.dims regs.old) }
+        ensures replies { Replies (λ told. answer_by name.now (line_of_query hash_key.now at.now) (parts_in told (V.seen view.now)))
+            (R.contents regs.new) (S.sent sink.old) (outcome_of result) (S.sent sink.new) }
+        ensures cause { IfErr (outcome_of result) (IsStopOf R.RegFile S.Sink regs.old regs.new sink.old sink.new) }
         ensures later { S.faults sink.old ≤ S.faults sink.new }
-        ensures regs_later { R.faults regs.old ≤ R.faults regs.new }
-        ensures dims { R.dims regs.new ≡ R.dims regs.old }
-        ensures contents { Stays (R.contents regs.old) (R.contents regs.new) }
-        ensures calls { Stays (R.calls regs.old) (R.calls regs.new) }
+        ensures reads { OnlyReads R.RegFile regs.old regs.new }
     {
         let number = judge_query(view, name, at)?;
-        send_query(view, regs, hash_key, number, at, sink)
+        send_query(view, regs, hash_key, number, at, sink)?;
+        Ok(())
     }
 
     /// Tells the estimate of a task that counts distinct keys, with what it rests on.
@@ -118,23 +113,17 @@ impl Readout {
         name: &Name,
         sink: &mut S,
     ) -> Result<(), ReadFault>
-        requires fit { IsFit (V.geometry view.now) (V.tasks view.now) }
-        requires shaped { IsShaped (V.geometry view.now) (R.dims regs.old) }
-        ensures verdict { IsJudged (judged_card (task_named name.now (V.tasks view.now))) result }
-        ensures sent { SendsJudged
-            (λ (placed : PlacedTask) told. line_of_card (live_bits placed) placed.task (rows_contents told Live placed))
-            (judged_card (task_named name.now (V.tasks view.now)))
-            (R.contents regs.new) (S.sent sink.old) result (S.sent sink.new) }
-        ensures device { IsErrOf result ReadFault.Device → Rose (R.faults regs.old) (R.faults regs.new) }
-        ensures write { IsErrOf result ReadFault.Write → Rose (S.faults sink.old) (S.faults sink.new) }
+        requires fit { IsFit (V.seen view.now) }
+        requires shaped { IsShaped (V.seen view.now).geometry (R.dims regs.old) }
+        ensures replies { Replies (λ told. answer_by name.now line_of_card (parts_in told (V.seen view.now)))
+            (R.contents regs.new) (S.sent sink.old) (outcome_of result) (S.sent sink.new) }
+        ensures cause { IfErr (outcome_of result) (IsStopOf R.RegFile S.Sink regs.old regs.new sink.old sink.new) }
         ensures later { S.faults sink.old ≤ S.faults sink.new }
-        ensures regs_later { R.faults regs.old ≤ R.faults regs.new }
-        ensures dims { R.dims regs.new ≡ R.dims regs.old }
-        ensures contents { Stays (R.contents regs.old) (R.contents regs.new) }
-        ensures calls { Stays (R.calls regs.old) (R.calls regs.new) }
+        ensures reads { OnlyReads R.RegFile regs.old regs.new }
     {
         let at = judge_card(view, name)?;
-        send_card(view, regs, at, sink)
+        send_card(view, regs, at, sink)?;
+        Ok(())
     }
 
     /// Tells each value among the cells of a task of one row, with the number of cells that hold
@@ -146,24 +135,91 @@ impl Readout {
         name: &Name,
         sink: &mut S,
     ) -> Result<(), ReadFault>
-        requires fit { IsFit (V.geometry view.now) (V.tasks view.now) }
-        requires shaped { IsShaped (V.geometry view.now) (R.dims regs.old) }
-        requires room { IfSome (task_named name.now (V.tasks view.now)) (λ placed. live_bits placed ≤ self.old) }
-        ensures verdict { IsJudged (judged_dist (task_named name.now (V.tasks view.now))) result }
-        ensures sent { SendsJudged
-            (λ (placed : PlacedTask) told. lines_of_dist placed.task (rows_contents told Live placed))
-            (judged_dist (task_named name.now (V.tasks view.now)))
-            (R.contents regs.new) (S.sent sink.old) result (S.sent sink.new) }
-        ensures device { IsErrOf result ReadFault.Device → Rose (R.faults regs.old) (R.faults regs.new) }
-        ensures write { IsErrOf result ReadFault.Write → Rose (S.faults sink.old) (S.faults sink.new) }
+        requires fit { IsFit (V.seen view.now) }
+        requires shaped { IsShaped (V.seen view.now).geometry (R.dims regs.old) }
+        requires room { IfSome (task_named name.now (V.seen view.now)) (λ placed. live_bits placed ≤ self.old) }
+        ensures replies { Replies (λ told. answer_by name.now lines_of_dist (parts_in told (V.seen view.now)))
+            (R.contents regs.new) (S.sent sink.old) (outcome_of result) (S.sent sink.new) }
+        ensures cause { IfErr (outcome_of result) (IsStopOf R.RegFile S.Sink regs.old regs.new sink.old sink.new) }
         ensures later { S.faults sink.old ≤ S.faults sink.new }
-        ensures regs_later { R.faults regs.old ≤ R.faults regs.new }
-        ensures dims { R.dims regs.new ≡ R.dims regs.old }
-        ensures contents { Stays (R.contents regs.old) (R.contents regs.new) }
-        ensures calls { Stays (R.calls regs.old) (R.calls regs.new) }
+        ensures reads { OnlyReads R.RegFile regs.old regs.new }
         ensures room { self.new ≡ self.old }
     {
         let at = judge_dist(view, name)?;
-        send_dist(view, regs, at, &mut self.cells, sink)
+        send_dist(view, regs, at, &mut self.cells, sink)?;
+        Ok(())
+    }
+
+    /// Tells each task in order of its addition, with its present size, and where its rows stand.
+    pub fn show<V: TaskView, S: Sink>(&self, view: &V, sink: &mut S) -> Result<(), ReadFault>
+        requires { IsFit (V.seen view.now) }
+        ensures write { IfErr result (λ fault. fault ≡ ReadFault.Write) }
+        ensures cause { HasCause (S.faults sink.old) (S.faults sink.new) result }
+        ensures sent { Sends (S.sent sink.old) (show_lines (V.seen view.now)) result (S.sent sink.new) }
+    {
+        send_show(view, sink).map_err(|_| ReadFault::Write)
+    }
+
+    /// Tells the units of each group, and of each array how many registers are free, how many the
+    /// largest free partition has, and how many live rows stand on it.
+    pub fn stat<V: TaskView, S: Sink>(&self, view: &V, sink: &mut S) -> Result<(), ReadFault>
+        ensures write { IfErr result (λ fault. fault ≡ ReadFault.Write) }
+        ensures cause { HasCause (S.faults sink.old) (S.faults sink.new) result }
+        ensures sent { Sends (S.sent sink.old) (stat_lines (V.seen view.now)) result (S.sent sink.new) }
+    {
+        send_stat(view, sink).map_err(|_| ReadFault::Write)
+    }
+
+    /// Carries out a read-out by the call for it.
+    fn carry_out<V: TaskView, R: RegFile, S: Sink>(
+        &mut self,
+        view: &V,
+        regs: &mut R,
+        hash_key: &HashKey,
+        request: &Request,
+        sink: &mut S,
+    ) -> Result<(), ReadFault>
+        requires fit { IsFit (V.seen view.now) }
+        requires shaped { IsShaped (V.seen view.now).geometry (R.dims regs.old) }
+        requires room { AreWithin self.old (V.seen view.now) }
+        ensures replies { Replies (λ told. answer_to hash_key.now request.now (V.seen view.now) (parts_in told (V.seen view.now)))
+            (R.contents regs.new) (S.sent sink.old) (outcome_of result) (S.sent sink.new) }
+        ensures cause { IfErr (outcome_of result) (IsStopOf R.RegFile S.Sink regs.old regs.new sink.old sink.new) }
+        ensures later { S.faults sink.old ≤ S.faults sink.new }
+        ensures reads { OnlyReads R.RegFile regs.old regs.new }
+        ensures room { self.new ≡ self.old }
+    {
+        match request {
+            Request::Task { name, ask } => match ask {
+                Ask::Cells(side) => self.cells(view, regs, name, *side, sink),
+                Ask::Query(at) => self.query(view, regs, hash_key, name, at, sink),
+                Ask::Dist => self.dist(view, regs, name, sink),
+                Ask::Card => self.card(view, regs, name, sink),
+            },
+            Request::Show => self.show(view, sink),
+            Request::Stat => self.stat(view, sink),
+        }
+    }
+
+    /// Carries out a read-out: its lines are sent, or it is refused, or a fault stopped it.
+    pub fn read_out<V: TaskView, R: RegFile, S: Sink>(
+        &mut self,
+        view: &V,
+        regs: &mut R,
+        hash_key: &HashKey,
+        request: &Request,
+        sink: &mut S,
+    ) -> Result<Result<(), Refusal>, Stop>
+        requires fit { IsFit (V.seen view.now) }
+        requires shaped { IsShaped (V.seen view.now).geometry (R.dims regs.old) }
+        requires room { AreWithin self.old (V.seen view.now) }
+        ensures replies { Replies (λ told. answer_to hash_key.now request.now (V.seen view.now) (parts_in told (V.seen view.now)))
+            (R.contents regs.new) (S.sent sink.old) result (S.sent sink.new) }
+        ensures cause { IfErr result (IsStopOf R.RegFile S.Sink regs.old regs.new sink.old sink.new) }
+        ensures later { S.faults sink.old ≤ S.faults sink.new }
+        ensures reads { OnlyReads R.RegFile regs.old regs.new }
+        ensures room { self.new ≡ self.old }
+    {
+        split(self.carry_out(view, regs, hash_key, request, sink))
     }
 }

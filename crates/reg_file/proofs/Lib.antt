@@ -1,2 +1,4 @@
+pub mod CallLemmas
 mod Places
 mod Values
+pub mod ReadLemmas

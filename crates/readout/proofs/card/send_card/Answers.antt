@@ -1,42 +1,45 @@
-use Rattle.std.proofs.Common.{◌≡◌, ◌^◌, ap, ◌∙◌}
-use Rattle.std.proofs.lemmas.Result.{on_ok_weaker, on_err_weaker}
+use Rattle.std.proofs.Common.{◌≡◌, ◌^◌, Ok, ap, ◌∙◌}
 use Rattle.sketch_defs.specs.Answers.{raw_of}
 use Rattle.readout.specs.declared.views.Placed.{Placed}
-use Rattle.readout.specs.PlacedTasks.{placed_task_at, live_bits}
+use Rattle.readout.specs.declared.refusals.Stop.{Stop}
+use Rattle.readout.specs.PlacedTasks.{task_in, live_bits}
 use Rattle.readout.specs.Lines.{card_line}
-use Rattle.readout.proofs.CardLemmas.{card_sent, card_part, card_unsent, z_fits}
+use Rattle.readout.proofs.PieceLemmas.{sends_at_err}
+use Rattle.readout.proofs.CardLemmas.{card_sent, card_unsent, z_fits}
 use Rattle.readout.proofs.card.send_card.Goals as goal
 
 pub raw_estimate-raw-requires-clause-high : goal.raw_estimate-raw-requires-clause-high
 raw_estimate-raw-requires-clause-high g c =
-    let is : c.cell_count.result ≡ 2 ^ c.bits_of-bits.result = cc (c.cell_count.ensures, c.bits_of-bits.ensures.value) in
-    z_fits c.in-Ok.tally.z c.cell_count.result c.bits_of-bits.result is c.in-Ok.ensures.high
+    let is : c.cell_count.result ≡ 2 ^ c.bits_of.result = cc (c.cell_count.ensures, c.bits_of.ensures.value) in
+    z_fits c.in_ok-tally.tally.z c.cell_count.result c.bits_of.result is c.in_ok-tally.ensures.high
 
-pub returns-in-Ok-clause-sent : goal.returns-in-Ok-clause-sent
-returns-in-Ok-clause-sent g c =
+pub returns-in_err-tally-clause-sent : goal.returns-in_err-tally-clause-sent
+returns-in_err-tally-clause-sent g c =
     let r = g.R.RegFile in let s = g.S.Sink in let v = g.V.TaskView in
-    let placed = placed_task_at (v.tasks c.args.view.now) c.args.at in
-    let bits : c.bits_of-bits.result ≡ live_bits placed = c.bits_of-bits.ensures.value ∙ ap (λ (p : Placed). p.region.bits) c.first_place-part.ensures.value in
-    let line : c.card_line.result.bytes ≡ card_line placed.task.name c.in-Ok.tally.zeros c.in-Ok.tally.z (raw_of (live_bits placed) c.in-Ok.tally.z) =
-    cc (c.card_line.ensures, c.name.ensures, c.task-task.ensures, c.raw_estimate-raw.ensures, bits) in
-    on_ok_weaker c.send_line.result
-    (λ grew. card_sent (r.contents c.tally_of.new.regs) (s.sent c.args.sink.now) (s.sent c.send_line.new.sink) placed c.card_line.result.bytes
-    c.in-Ok.tally.zeros c.in-Ok.tally.z c.first_place-part.ensures.exists line c.in-Ok.ensures.zeros c.in-Ok.ensures.z grew)
-    c.send_line.ensures.sent
+    card_unsent c.from_residual.result (r.contents c.tally_of.new.regs) (s.sent c.args.sink.now) (task_in (v.seen c.args.view.now) c.args.at) c.from_residual.ensures.0
 
-pub returns-in-Ok-clause-part : goal.returns-in-Ok-clause-part
-returns-in-Ok-clause-part g c =
+pub returns-clause-sent : goal.returns-clause-sent
+returns-clause-sent g c =
     let r = g.R.RegFile in let s = g.S.Sink in let v = g.V.TaskView in
-    let placed = placed_task_at (v.tasks c.args.view.now) c.args.at in
-    let bits : c.bits_of-bits.result ≡ live_bits placed = c.bits_of-bits.ensures.value ∙ ap (λ (p : Placed). p.region.bits) c.first_place-part.ensures.value in
-    let line : c.card_line.result.bytes ≡ card_line placed.task.name c.in-Ok.tally.zeros c.in-Ok.tally.z (raw_of (live_bits placed) c.in-Ok.tally.z) =
-    cc (c.card_line.ensures, c.name.ensures, c.task-task.ensures, c.raw_estimate-raw.ensures, bits) in
-    on_err_weaker c.send_line.result
-    (λ part. card_part (r.contents c.tally_of.new.regs) (s.sent c.args.sink.now) (s.sent c.send_line.new.sink) placed c.card_line.result.bytes
-    c.in-Ok.tally.zeros c.in-Ok.tally.z c.first_place-part.ensures.exists line c.in-Ok.ensures.zeros c.in-Ok.ensures.z part)
-    c.send_line.ensures.part
+    let placed = task_in (v.seen c.args.view.now) c.args.at in
+    let bits : c.bits_of.result ≡ live_bits placed = c.bits_of.ensures.value ∙ ap (λ (p : Placed). p.region.bits) c.first_place-part.ensures.value in
+    let put : c.put_card.new.piece.bytes ≡ card_line c.name.result.now c.in_ok-tally.tally.zeros c.in_ok-tally.tally.z c.raw_estimate-raw.result =
+    rw c.new-piece.ensures at c.put_card.ensures in
+    let line : c.put_card.new.piece.bytes ≡ card_line placed.task.name c.in_ok-tally.tally.zeros c.in_ok-tally.tally.z (raw_of (live_bits placed) c.in_ok-tally.tally.z) =
+    cc (put, c.name.ensures, c.task.ensures, c.raw_estimate-raw.ensures, bits) in
+    card_sent {E = Stop} (Ok c.in_ok-send_piece.field-0) (r.contents c.tally_of.new.regs) (s.sent c.args.sink.now) (s.sent c.send_piece.new.sink) placed c.put_card.new.piece.bytes
+    c.in_ok-tally.tally.zeros c.in_ok-tally.tally.z c.first_place-part.ensures.exists line c.in_ok-tally.ensures.zeros c.in_ok-tally.ensures.z c.in_ok-send_piece.ensures.sent
 
-pub returns-in-Err-clause-part : goal.returns-in-Err-clause-part
-returns-in-Err-clause-part g c =
+pub returns-in_err-send_piece-clause-sent : goal.returns-in_err-send_piece-clause-sent
+returns-in_err-send_piece-clause-sent g c =
     let r = g.R.RegFile in let s = g.S.Sink in let v = g.V.TaskView in
-    card_unsent (r.contents c.tally_of.new.regs) (s.sent c.args.sink.now) (placed_task_at (v.tasks c.args.view.now) c.args.at)
+    let placed = task_in (v.seen c.args.view.now) c.args.at in
+    let bits : c.bits_of.result ≡ live_bits placed = c.bits_of.ensures.value ∙ ap (λ (p : Placed). p.region.bits) c.first_place-part.ensures.value in
+    let put : c.put_card.new.piece.bytes ≡ card_line c.name.result.now c.in_ok-tally.tally.zeros c.in_ok-tally.tally.z c.raw_estimate-raw.result =
+    rw c.new-piece.ensures at c.put_card.ensures in
+    let line : c.put_card.new.piece.bytes ≡ card_line placed.task.name c.in_ok-tally.tally.zeros c.in_ok-tally.tally.z (raw_of (live_bits placed) c.in_ok-tally.tally.z) =
+    cc (put, c.name.ensures, c.task.ensures, c.raw_estimate-raw.ensures, bits) in
+    let failed = c.from_residual-in_err-send_piece in
+    card_sent failed.result (r.contents c.tally_of.new.regs) (s.sent c.args.sink.now) (s.sent c.send_piece.new.sink) placed c.put_card.new.piece.bytes
+    c.in_ok-tally.tally.zeros c.in_ok-tally.tally.z c.first_place-part.ensures.exists line c.in_ok-tally.ensures.zeros c.in_ok-tally.ensures.z
+    (sends_at_err failed.result (s.sent c.args.sink.now) (s.sent c.send_piece.new.sink) c.put_card.new.piece.bytes failed.ensures.0 c.in_err-send_piece.ensures.sent)

@@ -1,0 +1,9 @@
+pub mod RangeLemmas
+pub mod FirstLemmas
+pub mod RuleLemmas
+pub mod GroupLemmas
+pub mod PassLemmas
+pub mod StepLemmas
+pub mod FlowLemmas
+pub mod ModelLemmas
+pub mod BlockLemmas

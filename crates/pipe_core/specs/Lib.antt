@@ -1,0 +1,4 @@
+pub mod Rules
+pub mod Groups
+pub mod Flow
+pub mod Bridge

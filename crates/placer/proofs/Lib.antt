@@ -1,0 +1,5 @@
+pub mod LookLemmas
+pub mod PlacementLemmas
+pub mod SightLemmas
+pub mod StepLemmas
+pub mod Values

@@ -1,0 +1,4 @@
+pub mod Laws
+pub mod Placement
+pub mod Sights
+pub mod Steps

@@ -1,0 +1,7 @@
+pub mod Records
+pub mod Sights
+pub mod Soundness
+pub mod Changes
+pub mod Packets
+pub mod Histories
+pub mod Laws
