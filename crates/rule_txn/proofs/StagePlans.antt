@@ -39,8 +39,8 @@ leases_are bits pools (None ∷ rest) each = ap (λ (xs : List (Option Lent)). N
 leases_are bits pools (Some place ∷ rest) each =
     let P = λ (p : Place). free_in (pool_at pools p.array) bits ≡ Some p.region in
     ap₂ (λ (x : Option Lent) (xs : List (Option Lent)). x ∷ xs)
-      (ap (λ (r : Option Block). option_map (λ (b : Block). (let lease : Lent = record { pool = place.array; region = b } in lease)) r) (All-head P place (there rest) each))
-      (leases_are bits pools rest (All-tail P place (there rest) each))
+    (ap (λ (r : Option Block). option_map (λ (b : Block). (let lease : Lent = record { pool = place.array; region = b } in lease)) r) (All-head P place (there rest) each))
+    (leases_are bits pools rest (All-tail P place (there rest) each))
 
 keys_are : (units : List (Option UsedUnit)) (key : List ℕ) (keys : KeyUse) → keys_in (served_by units key keys) ≡ keys
 keys_are units key (uses.Single unit) = refl
@@ -67,10 +67,10 @@ length_more (y ∷ ys) x = let more = length_more ys x in omega (arith, more)
 goes : (served front : List (Option Served)) (k : ℕ) (x : Option Served) (xs : List (Option Served)) → served ≡ front ++ x ∷ xs → k ≡ length front
     → Goes served front k x xs
 goes served front k x xs e at = record {
-    here = ap (λ (ys : List (Option Served)). get_or ys k None) e ∙ ap (λ n. get_or (front ++ x ∷ xs) n None) at ∙ at_front front x None xs;
-    rest = e ∙ sym (append_assoc front (x ∷ []) xs);
-    next = ap (λ n. n + 1) at ∙ length_more front x;
-  }
+  here = ap (λ (ys : List (Option Served)). get_or ys k None) e ∙ ap (λ n. get_or (front ++ x ∷ xs) n None) at ∙ at_front front x None xs;
+  rest = e ∙ sym (append_assoc front (x ∷ []) xs);
+  next = ap (λ n. n + 1) at ∙ length_more front x;
+}
 
 pub rows_from : (geometry : Geometry) (sight : Sight) (task : Sketch) (served front : List (Option Served)) (k : ℕ) (places : List (Option Place))
     → served ≡ front ++ map (served_on geometry sight.units task.key) places → k ≡ length front
@@ -87,16 +87,17 @@ rows_from geometry sight task served front k (Some place ∷ rest) e at =
     let more = rows_from geometry sight task served (front ++ Some its ∷ []) (k + 1) rest one.rest one.next in
     let row : Row = record { array = place.array; region = place.region; keys = keys_in its; masks = masks_in its; frozen = None } in
     let same : row ≡ row_at geometry sight task place = ap₂
-      (λ keys masks. (let r : Row = record { array = place.array; region = place.region; keys = keys; masks = masks; frozen = None } in r))
-      (keys_are units task.key place.keys) (masks_are units task.key place.keys) in
-    ((subst (λ (s : Option Served). IsServed s (lease_on (Some place))) (sym one.here) refl, more.0),
-     ap (λ (s : Option Served). there (leased_row s (lease_on (Some place)) ∷ leased_rows served (k + 1) (map lease_on rest))) one.here
-     ∙ ap₂ (λ (r : Row) (rs : List Row). r ∷ rs) same more.1)
+    (λ keys masks. (let r : Row = record { array = place.array; region = place.region; keys = keys; masks = masks; frozen = None } in r))
+    (keys_are units task.key place.keys) (masks_are units task.key place.keys) in (
+      (subst (λ (s : Option Served). IsServed s (lease_on (Some place))) (sym one.here) refl, more.0),
+      ap (λ (s : Option Served). there (leased_row s (lease_on (Some place)) ∷ leased_rows served (k + 1) (map lease_on rest))) one.here
+          ∙ ap₂ (λ (r : Row) (rs : List Row). r ∷ rs) same more.1,
+    )
 
 -- the rows of a new task are the model's
 pub rows_are : (geometry : Geometry) (sight : Sight) (task : Sketch) (places : List (Option Place))
     → let served = map (served_on geometry sight.units task.key) places in
-      AreServed served 0 (map lease_on places) × (there (leased_rows served 0 (map lease_on places)) ≡ map (row_at geometry sight task) (there places))
+    AreServed served 0 (map lease_on places) × (there (leased_rows served 0 (map lease_on places)) ≡ map (row_at geometry sight task) (there places))
 rows_are geometry sight task places = rows_from geometry sight task (map (served_on geometry sight.units task.key) places) [] 0 places refl refl
 
 -- ---- rows that move
@@ -117,11 +118,11 @@ moves_one bits i pools row slots leases rows (Some region) (Err n) more thawed f
 moves_one bits i pools row slots leases rows (Some region) (Ok rs) more thawed free e =
     let lease : Lent = record { pool = row.array; region = region } in
     let given : next_lease bits pools (Some row.array) ≡ Some lease =
-      ap (λ (r : Option Block). option_map (λ (b : Block). (let l : Lent = record { pool = row.array; region = b } in l)) r) free in
+    ap (λ (r : Option Block). option_map (λ (b : Block). (let l : Lent = record { pool = row.array; region = b } in l)) r) free in
     let rest = more rs refl in
     let same : moved_row row region ∷ rs ≡ rows = cc in
     subst (λ (l : Option Lent). Moved (Some row ∷ slots) (l ∷ leases) rows) (sym given)
-      ((record { same = refl; thawed = thawed }, rest.0), ap (λ (xs : List Row). moved_row row region ∷ xs) rest.1 ∙ same)
+    ((record { same = refl; thawed = thawed }, rest.0), ap (λ (xs : List Row). moved_row row region ∷ xs) rest.1 ∙ same)
 
 -- rows that move are the model's
 pub moves_are : (geometry : Geometry) (sight : Sight) (bits i : ℕ) (pools : List PoolState) (slots : List (Option Row)) (rows : List Row)
@@ -135,9 +136,9 @@ moves_are geometry sight bits i pools (Some row ∷ slots) rows thawed agree e =
     let P = Agrees geometry sight bits pools in
     let T = λ (r : Row). r.frozen ≡ None in
     moves_one bits i pools row slots (map (next_lease bits pools) (map row_array slots)) rows
-      (region_for geometry sight bits row.array) (moved_rows geometry sight bits (i + 1) (there slots))
-      (λ rs ok. moves_are geometry sight bits (i + 1) pools slots rs (All-tail T row (there slots) thawed) (All-tail P row (there slots) agree) ok)
-      (All-head T row (there slots) thawed) (sym (All-head P row (there slots) agree)) e
+    (region_for geometry sight bits row.array) (moved_rows geometry sight bits (i + 1) (there slots))
+    (λ rs ok. moves_are geometry sight bits (i + 1) pools slots rs (All-tail T row (there slots) thawed) (All-tail P row (there slots) agree) ok)
+    (All-head T row (there slots) thawed) (sym (All-head P row (there slots) agree)) e
 
 -- ---- whether there is room
 
@@ -168,14 +169,14 @@ room_from geometry sight bits i pools (row ∷ rows) sees =
     let found = position_from (is_full pools bits) (i + 1) (map (λ (r : Row). r.array) rows) in
     let later = moved_rows geometry sight bits (i + 1) rows in
     subst (λ (region : Option Block). RoomIs (cond (not (is_some region)) (Some i) found) (moved_first i row (region_for geometry sight bits row.array) later))
-      (All-head P row rows sees)
-      (room_one i row (region_for geometry sight bits row.array) found later
-        (room_from geometry sight bits (i + 1) pools rows (All-tail P row rows sees)))
+    (All-head P row rows sees)
+    (room_one i row (region_for geometry sight bits row.array) found later
+    (room_from geometry sight bits (i + 1) pools rows (All-tail P row rows sees)))
 
 -- the first row whose array is full is the model's
 pub room_is : (geometry : Geometry) (sight : Sight) (bits : ℕ) (pools : List PoolState) (rows : List Row) → All (Sees geometry sight bits pools) rows
     → RoomIs (first_full pools bits (map (λ (row : Row). row.array) rows)) (moved_rows geometry sight bits 0 rows)
 room_is geometry sight bits pools rows sees =
     subst (λ (found : Option ℕ). RoomIs found (moved_rows geometry sight bits 0 rows))
-      (sym (position_from-zero (is_full pools bits) (map (λ (row : Row). row.array) rows)))
-      (room_from geometry sight bits 0 pools rows sees)
+    (sym (position_from-zero (is_full pools bits) (map (λ (row : Row). row.array) rows)))
+    (room_from geometry sight bits 0 pools rows sees)

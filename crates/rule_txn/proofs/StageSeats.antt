@@ -56,6 +56,7 @@ pub are_places : (geometry : Geometry) (groups : Groups) (places : List (Option 
     → ArePlaces geometry groups places
 are_places geometry groups [] each = tt
 are_places geometry groups (None ∷ rest) each = (tt, are_places geometry groups rest each)
-are_places geometry groups (Some place ∷ rest) each =
-    (All-head (IsPlace geometry groups) place (there rest) each,
-     are_places geometry groups rest (All-tail (IsPlace geometry groups) place (there rest) each))
+are_places geometry groups (Some place ∷ rest) each = (
+  All-head (IsPlace geometry groups) place (there rest) each,
+  are_places geometry groups rest (All-tail (IsPlace geometry groups) place (there rest) each),
+)
