@@ -13,3 +13,4 @@ mod Uses
 mod Served
 mod Counts
 mod Bounds
+mod Enters
