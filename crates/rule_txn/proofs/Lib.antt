@@ -1,3 +1,4 @@
+mod StageSights
 mod StagePlans
 mod StageSeats
 mod StageFills
