@@ -15,3 +15,5 @@ mod Served
 mod Counts
 mod Bounds
 mod Enters
+mod Giving
+mod Adds
