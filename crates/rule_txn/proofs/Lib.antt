@@ -1,3 +1,4 @@
+mod StageRefills
 mod StageSights
 mod StagePlans
 mod StageSeats

@@ -10,7 +10,7 @@ use Rattle.std.proofs.lemmas.List.Elements.{All-head, All-tail}
 use Rattle.addr_translate.specs.Geometry.{Geometry}
 use Rattle.placer.specs.declared.places.Place.{Place}
 use Rattle.rule_txn.specs.Rows.{Groups}
-use Rattle.rule_txn.specs.Stages.{IsSeat, AreSeats, arrays_there}
+use Rattle.rule_txn.specs.Stages.{IsPlace, ArePlaces, arrays_there}
 
 pub there_all : {X : Type 0} (xs : List X) → length xs ≤ 4
     → there (slice_get xs 0 ∷ slice_get xs 1 ∷ slice_get xs 2 ∷ slice_get xs 3 ∷ []) ≡ xs
@@ -52,11 +52,11 @@ few_there None = omega arith
 few_there (Some row) = omega arith
 
 -- places that are there, slot by slot
-pub are_seats : (geometry : Geometry) (groups : Groups) (places : List (Option Place)) → All (IsSeat geometry groups) (there places)
-    → AreSeats geometry groups places
-are_seats geometry groups [] each = tt
-are_seats geometry groups (None ∷ rest) each = (tt, are_seats geometry groups rest each)
-are_seats geometry groups (Some place ∷ rest) each = (
-  All-head (IsSeat geometry groups) place (there rest) each,
-  are_seats geometry groups rest (All-tail (IsSeat geometry groups) place (there rest) each),
+pub are_places : (geometry : Geometry) (groups : Groups) (places : List (Option Place)) → All (IsPlace geometry groups) (there places)
+    → ArePlaces geometry groups places
+are_places geometry groups [] each = tt
+are_places geometry groups (None ∷ rest) each = (tt, are_places geometry groups rest each)
+are_places geometry groups (Some place ∷ rest) each = (
+  All-head (IsPlace geometry groups) place (there rest) each,
+  are_places geometry groups rest (All-tail (IsPlace geometry groups) place (there rest) each),
 )

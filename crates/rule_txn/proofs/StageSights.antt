@@ -27,12 +27,12 @@ use Rattle.switch_model.proofs.ListLemmas.{pairs_map, pairs_weaker}
 use Rattle.rule_txn.specs.State.{there, units_for, free_in, Gives}
 use Rattle.rule_txn.specs.Rows.{Groups, next_lease, row_array, fresh_leases, CanTake}
 use Rattle.rule_txn.specs.Switch.{pool_for, pools_for, placed_table, table_for, tables_for, groups_for}
-use Rattle.rule_txn.specs.Stages.{ArePools, IsSeat, AreSeats, place_array}
+use Rattle.rule_txn.specs.Stages.{ArePools, IsPlace, ArePlaces, place_array}
 use Rattle.rule_txn.proofs.Places.{at_range, get_or-map}
 use Rattle.rule_txn.proofs.Pools.{pools_at, length-pools, can_take}
 use Rattle.rule_txn.proofs.Tables.{table_is}
 use Rattle.rule_txn.proofs.StagePlans.{lease_on, leases_are, Agrees, Sees, Moved, moves_are}
-use Rattle.rule_txn.proofs.StageSeats.{are_seats}
+use Rattle.rule_txn.proofs.StageSeats.{are_places}
 
 -- ---- pools
 
@@ -136,7 +136,7 @@ differs one two lt e = omega (arith, lt, e)
 pub record IsPlanned (geometry : Geometry) (bits : ℕ) (groups : Groups) (pools : List PoolState) (places : List (Option Place)) : Type 0 where
   pub can : CanTake bits pools (map place_array places)
   pub leases : fresh_leases bits pools (map place_array places) ≡ map lease_on places
-  pub seats : AreSeats geometry groups places
+  pub seats : ArePlaces geometry groups places
 
 pub planned : (geometry : Geometry) (all : List Outline) (groups : Groups) (pools : List PoolState) (task : Sketch) (bits : ℕ) (places : List (Option Place))
     → groups ≡ groups_for geometry (all_uses geometry all) → pools ≡ pools_for geometry (all_held all)
@@ -155,7 +155,7 @@ planned geometry all groups pools task bits places g p accepted =
     record {
       can = taken.0;
       leases = taken.1 ∙ leases_are bits pools places (λ k d lt. (it k d lt).free);
-      seats = are_seats geometry groups places (λ k d lt. (
+      seats = are_places geometry groups places (λ k d lt. (
         let place = get_or (there places) k d in
         let units = units_at geometry sight place.array in
         let exist : AreUnits units place.keys = subst (λ (keys : Option KeyUse). IfSome keys (AreUnits units)) (found.stand k d lt).keys_are (keys_stand units task.key) in

@@ -58,13 +58,13 @@ served_on geometry groups key place =
     option_map (λ (p : Place). served_by (units_for geometry groups p.array) key p.keys) place
 
 -- the array of the place is there, and so are its units
-pub record IsSeat (geometry : Geometry) (groups : Groups) (place : Place) : Type 0 where
+pub record IsPlace (geometry : Geometry) (groups : Groups) (place : Place) : Type 0 where
   pub array : place.array < array_count geometry
   pub units : All (λ unit. unit < length (units_for geometry groups place.array)) (units_in place.keys)
 
-abbrev pub AreSeats : Geometry → Groups → List (Option Place) → Type 0
-AreSeats geometry groups [] = Unit {0}
-AreSeats geometry groups (place ∷ rest) = IfSome place (IsSeat geometry groups) × AreSeats geometry groups rest
+abbrev pub ArePlaces : Geometry → Groups → List (Option Place) → Type 0
+ArePlaces geometry groups [] = Unit {0}
+ArePlaces geometry groups (place ∷ rest) = IfSome place (IsPlace geometry groups) × ArePlaces geometry groups rest
 
 -- ---- rows that are there
 

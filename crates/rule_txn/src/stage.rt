@@ -5,7 +5,7 @@ ghost use Rattle.outside.specs.Told.{Told, Stays};
 ghost use Rattle.std.specs.List.{All, AllPairs};
 ghost use Rattle.partition_pool.specs.Pools.{PoolState};
 ghost use Rattle.rule_txn.specs.Rows.{fresh_leases, taken, CanTake, leased_rows, AreServed, moved_all, CanMoveAll, lives, frozens, given, CanGive, with_uses, less_uses, CanServeAll, CanFreeAll, first_turn, with_rows, less_rows, CanSettleAll, CanLeaveAll};
-ghost use Rattle.rule_txn.specs.Stages.{HadRoomAll, ArePools, IsSeat, AreSeats, found_in, rules_in, served_on, arrays_there};
+ghost use Rattle.rule_txn.specs.Stages.{HadRoomAll, ArePools, IsPlace, ArePlaces, found_in, rules_in, served_on, arrays_there};
 ghost use Rattle.placer.specs.Sights.{bits_for};
 ghost use Rattle.placer.specs.Placement.{placed, sight_in, first_full};
 ghost use Rattle.rule_txn.specs.Switch.{first_state};
@@ -92,7 +92,7 @@ impl Stage {
     }
 
     fn served_at(&self, task: &Task, place: &Option<Place>) -> Option<Served>
-        requires { IfSome place.now (IsSeat self.now.geometry self.now.groups) }
+        requires { IfSome place.now (IsPlace self.now.geometry self.now.groups) }
         ensures { result ≡ served_on self.now.geometry self.now.groups task.now.key place.now }
     {
         match place {
@@ -107,7 +107,7 @@ impl Stage {
 
     /// The units of planned rows, each with its mask.
     pub(crate) fn served_all(&self, task: &Task, places: &[Option<Place>; 4]) -> [Option<Served>; 4]
-        requires { AreSeats self.now.geometry self.now.groups places.now }
+        requires { ArePlaces self.now.geometry self.now.groups places.now }
         ensures { result ≡ map (served_on self.now.geometry self.now.groups task.now.key) places.now }
     {
         [
