@@ -40,7 +40,7 @@ use Rattle.rule_txn.proofs.Giving.{gives_region, lent, all_in_file, live_held}
 
 -- ---- lists of four places
 
-there_map : {X Y : Type 0} (f : X → Y) (slots : List (Option X)) → there (map (option_map f) slots) ≡ map f (there slots)
+pub there_map : {X Y : Type 0} (f : X → Y) (slots : List (Option X)) → there (map (option_map f) slots) ≡ map f (there slots)
 there_map f [] = refl
 there_map f (None ∷ slots) = there_map f slots
 there_map f (Some x ∷ slots) = ap (λ ys. f x ∷ ys) (there_map f slots)

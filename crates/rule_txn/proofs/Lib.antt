@@ -18,3 +18,5 @@ mod Bounds
 mod Enters
 mod Giving
 mod Adds
+mod Removed
+mod Resizes
