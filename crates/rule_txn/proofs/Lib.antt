@@ -1,6 +1,4 @@
 mod StageRefills
-mod StageSights
-mod StagePlans
 mod StageSeats
 mod StageFills
 mod StageLeases
