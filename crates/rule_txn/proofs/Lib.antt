@@ -1,3 +1,4 @@
+mod StageStarts
 mod StageRefills
 mod StageSeats
 mod StageFills
