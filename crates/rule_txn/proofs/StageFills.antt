@@ -1,5 +1,5 @@
 -- Partitions that are filled one after another.
-use Rattle.std.proofs.Common.{◌≡◌, ℕ, Bool, true, false, List, [], ◌∷◌, length, get_or, refl, ap, sym, ◌∙◌, subst, arith}
+use Rattle.std.proofs.Common.{◌≡◌, ℕ, Bool, true, false, List, [], ◌∷◌, length, get_or, refl, ◌∙◌, subst, arith}
 use Rattle.std.specs.Prelude.{◌||◌, Option, None, Some, Result, Ok, Err, OnOk}
 use Rattle.outside.specs.Told.{Told}
 use Rattle.reg_file.specs.Registers.{Contents}
