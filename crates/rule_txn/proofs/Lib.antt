@@ -1,5 +1,4 @@
 mod StageStarts
-mod StageRefills
 mod StageSeats
 mod StageFills
 mod StageLeases
