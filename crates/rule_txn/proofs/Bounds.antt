@@ -196,7 +196,7 @@ abbrev pub cmus : GroupShape → ℕ
 cmus g = g.cmus
 
 -- where the arrays of a group stand
-group_range : (groups : List GroupShape) (array : ℕ) → array < sum_by cmus groups
+pub group_range : (groups : List GroupShape) (array : ℕ) → array < sum_by cmus groups
     → (sum_by cmus (take (groups_ended groups array) groups) ≤ array) × (array < sum_by cmus (take (groups_ended groups array) groups) + (get_or groups (groups_ended groups array) no_group).cmus)
 unfolding groups_ended
 group_range [] array lt = absurd (omega (arith, lt))

@@ -1,4 +1,4 @@
-mod StagePlans
+mod StageStarts
 mod StageSeats
 mod StageFills
 mod StageLeases
@@ -16,3 +16,8 @@ mod Bounds
 pub mod BridgeFinds
 pub mod BridgeCalls
 pub mod BridgeLemmas
+mod Enters
+mod Giving
+mod Adds
+mod Removed
+mod Resizes
