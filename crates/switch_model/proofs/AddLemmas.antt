@@ -9,7 +9,7 @@ use Rattle.match_table.specs.Tables.{admits}
 use Rattle.sketch_defs.specs.Tasks.{Sketch, first_fault}
 use Rattle.placer.specs.declared.places.Place.{Place}
 use Rattle.placer.specs.Sights.{Sight, bits_for}
-use Rattle.placer.proofs.PlacementLemmas.{ArePlaces}
+use Rattle.placer.specs.Laws.{ArePlaces}
 use Rattle.placer.proofs.SightLemmas.{IsSize, size_is}
 use Rattle.switch_model.specs.Records.{Row, Outline}
 use Rattle.switch_model.specs.Sights.{GroupUse, live_holding, held_by, all_held, spots_by, all_spots, row_uses, uses_by, all_uses, sight_of}

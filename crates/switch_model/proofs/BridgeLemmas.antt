@@ -1,9 +1,9 @@
 -- From rows with their packets to entries, units and the operations that a switch makes by them.
-use Rattle.std.proofs.Common.{◌≡◌, ◌≢◌, ℕ, zero, suc, ◌+◌, ◌<◌, ◌≤◌, ◌==◌, ◌&&◌, Bool, true, false, cond, List, [], ◌∷◌, ◌++◌, length, get_or, map, filter, refl, ap, ap₂, sym, ◌∙◌, subst, arith, bit_xor}
+use Rattle.std.proofs.Common.{◌≡◌, ℕ, ◌+◌, ◌<◌, ◌≤◌, ◌==◌, ◌&&◌, Bool, true, false, cond, List, [], ◌∷◌, ◌++◌, length, get_or, map, filter, refl, ap, ap₂, sym, ◌∙◌, subst, arith, bit_xor}
 use Rattle.std.specs.Prelude.{Option, None, Some, IsTrue}
 use Rattle.std.specs.List.{All, AllPairs, Contains, flat_map}
 use Rattle.std.proofs.lemmas.Bool.{false≢true}
-use Rattle.std.proofs.lemmas.List.Elements.{All-map, All-nil, All-cons, All-head, All-tail, All-append, All-weaker, All-contains}
+use Rattle.std.proofs.lemmas.List.Elements.{All-map, All-nil, All-cons, All-head, All-tail, All-append, All-contains}
 use Rattle.addr_translate.specs.Blocks.{Block, index_of}
 use Rattle.addr_translate.specs.Geometry.{Geometry, group_in, group_number}
 use Rattle.key_mask.specs.Bytes.{and_bytes, xor_bytes}
@@ -11,7 +11,6 @@ use Rattle.key_mask.specs.Masks.{mask_bytes_of}
 use Rattle.hash_units.specs.Toeplitz.{hash_of}
 use Rattle.hash_units.proofs.HashLemmas.{pairs_serve}
 use Rattle.pkt_headers.specs.declared.packets.Packet.{Packet}
-use Rattle.pkt_headers.specs.declared.packets.Attr.{Attr}
 use Rattle.stateful_ops.specs.Ops.{register_max, carry_of}
 use Rattle.reg_file.specs.Registers.{Contents}
 use Rattle.group_keys.specs.declared.uses.KeyUse.{KeyUse}
@@ -23,17 +22,23 @@ use Rattle.match_table.specs.declared.operations.Second.TheVariants.{Top, Carry}
 use Rattle.match_table.specs.Operations.{operation_by}
 use Rattle.sketch_defs.specs.declared.kinds.Kind.{Kind}
 use Rattle.sketch_defs.specs.declared.kinds.Kind.TheVariants.{Cms, SumaxSum, SumaxMax, Bloom, Mrac, Hll, FlagOr, FlagAnd}
-use Rattle.sketch_defs.specs.Cells.{cell_max, bound_at, index_at, row_hash_at, key_hash, brought_by}
+use Rattle.sketch_defs.specs.Cells.{bound_at, index_at, row_hash_at, key_hash, brought_by}
 use Rattle.sketch_defs.specs.Tasks.{Sketch}
 use Rattle.switch_model.proofs.IsolationLemmas.{same_bytes}
 use Rattle.sketch_lower.specs.Lowering.{entry_of, micro_of}
-use Rattle.sketch_lower.specs.Operations.{operation, operation_at}
+use Rattle.sketch_lower.specs.Operations.{operation}
 use Rattle.sketch_lower.proofs.EntryLemmas.{lowered_operation}
 use Rattle.switch_model.specs.Records.{Past, Part, Row, UnitMask, Record, Outline, outline, outlines}
 use Rattle.switch_model.specs.Sights.{Spot, GroupUse, before_of, all_spots, rules_on, row_uses, uses_by, all_uses, units_on, group_uses}
 use Rattle.switch_model.specs.Soundness.{IsRow, IsTask, GiveKey, Sound}
 use Rattle.switch_model.specs.Packets.{Stand, live_stand, live_stands, frozen_stand, frozen_stands, past_stands, stands_by, all_stands, cells_at, Layout, takes_on, call_of}
-use Rattle.switch_model.proofs.ListLemmas.{all_front, all_back, all_unflat}
+use Rattle.task_filters.specs.Filters.{passes, are_disjoint}
+use Rattle.match_table.specs.Tables.{takes}
+use Rattle.std.proofs.lemmas.Bool.{eqb-true}
+use Rattle.std.proofs.lemmas.List.Elements.{filter_passes}
+use Rattle.std.proofs.lemmas.List.Kept.{AllPairs-filter}
+use Rattle.switch_model.specs.Soundness.{MatchNone}
+use Rattle.switch_model.proofs.ListLemmas.{pairs_map, pairs_known, all_front, all_back, all_unflat}
 use Rattle.switch_model.proofs.StandLemmas.{is_live, spot_by, stands_enter}
 use Rattle.switch_model.proofs.CallLemmas.{no_two}
 use Rattle.switch_model.proofs.SightLemmas.{HasMask, masks_known, unit_seen}
@@ -56,11 +61,13 @@ on_array array [] = refl
 on_array array (s ∷ stands) = by (on_array array stands) s.live where
   spots : List Spot
   spots = map spot_by (filter is_live stands)
+
   live : map (λ (s : Spot). s.entry) (filter (λ (s : Spot). s.array == array) spots) ≡ map entry_by (filter (stands_on array) stands) → (b : Bool)
       → map (λ (s : Spot). s.entry) (cond b (spot_by s ∷ filter (λ (s : Spot). s.array == array) spots) (filter (λ (s : Spot). s.array == array) spots))
       ≡ map entry_by (cond b (s ∷ filter (stands_on array) stands) (filter (stands_on array) stands))
   live more true = ap (λ es. entry_by s ∷ es) more
   live more false = more
+
   by : map (λ (s : Spot). s.entry) (filter (λ (s : Spot). s.array == array) spots) ≡ map entry_by (filter (stands_on array) stands) → (a : Bool)
       → map (λ (s : Spot). s.entry) (filter (λ (s : Spot). s.array == array) (map spot_by (cond a (s ∷ filter is_live stands) (filter is_live stands))))
       ≡ map entry_by (cond (a && s.array == array) (s ∷ filter (stands_on array) stands) (filter (stands_on array) stands))
@@ -114,10 +121,13 @@ pub bound_stands : (geometry : Geometry) (hash_key : List ℕ) (rs : List Record
 bound_stands geometry hash_key rs packet contents s sound layout among live = by s.task.kind s.before refl refl where
   bound : ℕ
   bound = bound_at hash_key s.task s.region.bits (cells_at hash_key s) packet s.row
+
   chained : Chained geometry (all_stands rs) s
   chained = All-contains (Chained geometry (all_stands rs)) (all_stands rs) s (stands_chained geometry rs sound) among
+
   top : (kind : Kind) → s.task.kind ≡ kind → register_max ≡ bound_for kind bound → register_max ≡ bound_of hash_key packet s
   top kind e is = is ∙ ap (λ k. bound_for k bound) (sym e)
+
   by : (kind : Kind) (before : Option ℕ) → s.task.kind ≡ kind → s.before ≡ before
       → IsBoundBy hash_key (all_stands rs) packet contents s (micro_of kind s.task.attr (before_of kind before)).second
   by Cms before e f = top Cms e refl
@@ -164,8 +174,8 @@ operation_stands geometry hash_key rs packet s sound among live =
     let chained : Chained geometry (all_stands rs) s = All-contains (Chained geometry (all_stands rs)) (all_stands rs) s (stands_chained geometry rs sound) among in
     lowered_operation hash_key s.task s.region.bits s.row s.keys s.region (before_of s.task.kind s.before) packet (bound_of hash_key packet s)
     (λ kind none.
-      ap (λ k. bound_for k bound) kind
-      ∙ first_bound hash_key s packet (chained.first live (sym (ap (λ k. before_of k s.before) kind) ∙ none)))
+    ap (λ k. bound_for k bound) kind
+    ∙ first_bound hash_key s packet (chained.first live (sym (ap (λ k. before_of k s.before) kind) ∙ none)))
     ∙ any_bound s.task.kind (brought_by s.task.kind hash_key s.task s.region.bits s.row packet) bound
 
 pub addr_stands : (hash_key : List ℕ) (packet : Packet) (s : Stand)
@@ -253,9 +263,9 @@ live_keys geometry uses o part i before [] same each known = All-nil (KeyWhereLi
 live_keys geometry uses o part i before (row ∷ rows) same each known =
     All-cons (KeyWhereLive geometry uses) (live_stand part i before row) (live_stands part (i + 1) (Some row.array) rows)
     (λ live. row_key_stands geometry uses o part i before row same (All-head (IsRow geometry o) row rows each)
-      (All-head (λ row. All (KnownMask geometry uses) (row_uses geometry row)) row rows known))
+    (All-head (λ row. All (KnownMask geometry uses) (row_uses geometry row)) row rows known))
     (live_keys geometry uses o part (i + 1) (Some row.array) rows same (All-tail (IsRow geometry o) row rows each)
-      (All-tail (λ row. All (KnownMask geometry uses) (row_uses geometry row)) row rows known))
+    (All-tail (λ row. All (KnownMask geometry uses) (row_uses geometry row)) row rows known))
 
 frozen_keys : (geometry : Geometry) (uses : List GroupUse) (part : Part) (past : Past) (i : ℕ) (rows : List Row)
     → All (KeyWhereLive geometry uses) (frozen_stands part past i rows)
@@ -282,10 +292,10 @@ keys_among geometry uses (r ∷ rs) each known =
     all_front (KnownMask geometry uses) (uses_by geometry (outline r)) (flat_map (uses_by geometry) (outlines rs)) known in
     All-append (KeyWhereLive geometry uses) (stands_by r) (flat_map stands_by rs)
     (All-append (KeyWhereLive geometry uses) (live_stands r.part 0 None r.rows) (past_stands r.part r.part.past r.rows)
-      (live_keys geometry uses (outline r) r.part 0 None r.rows refl here.each (all_unflat (KnownMask geometry uses) (row_uses geometry) r.rows mine))
-      (past_keys geometry uses r.part r.part.past r.rows))
+    (live_keys geometry uses (outline r) r.part 0 None r.rows refl here.each (all_unflat (KnownMask geometry uses) (row_uses geometry) r.rows mine))
+    (past_keys geometry uses r.part r.part.past r.rows))
     (keys_among geometry uses rs (All-tail (IsTask geometry) (outline r) (outlines rs) each)
-      (all_back (KnownMask geometry uses) (uses_by geometry (outline r)) (flat_map (uses_by geometry) (outlines rs)) known))
+    (all_back (KnownMask geometry uses) (uses_by geometry (outline r)) (flat_map (uses_by geometry) (outlines rs)) known))
 
 -- the units of each live row exist and give the key of its task
 pub keys_stand : (geometry : Geometry) (rs : List Record) → Sound geometry (outlines rs)
@@ -319,9 +329,32 @@ hash_given hash_key vector key units (Pair one two) gives =
     let both : BothGive units key one two = gives in
     ap₂ bit_xor (has_hash hash_key vector both.first (unit_at units one) both.has_first) (has_hash hash_key vector both.second (unit_at units two) both.has_second)
     ∙ pairs_serve hash_key vector both.first both.second key
-      (same_bytes (xor_bytes (mask_bytes_of both.first) (mask_bytes_of both.second)) (mask_bytes_of key) both.sum)
+    (same_bytes (xor_bytes (mask_bytes_of both.first) (mask_bytes_of both.second)) (mask_bytes_of key) both.sum)
 
 -- and so the hash of the task for the packet
 pub task_hash : (hash_key vector : List ℕ) (task : Sketch) → hash_of hash_key (and_bytes vector (mask_bytes_of task.key)) ≡ key_hash hash_key task vector
 unfolding key_hash
 task_hash hash_key vector task = refl
+
+-- ---- which entry a packet finds
+
+-- a row takes a packet where it stands on the array and its entry takes it
+pub takes_by_entry : (packet : Packet) (array : ℕ) (s : Stand) → takes_on packet array s ≡ (stands_on array s && takes packet.vec (entry_by s))
+takes_by_entry packet array s = by s.live where
+  by : (live : Bool) → (live && (s.array == array && passes s.task.filter packet.vec)) ≡ ((live && s.array == array) && passes s.task.filter packet.vec)
+  by true = refl
+  by false = refl
+
+rules_pairs : (array : ℕ) (spots : List Spot) → AllPairs MatchNone spots → AllPairs (λ (one two : Entry). are_disjoint one.filter two.filter ≡ true) (rules_on spots array)
+rules_pairs array spots pairs =
+    let on : List Spot = filter (λ (s : Spot). s.array == array) spots in
+    let Apart : Entry → Entry → Type 0 = λ one two. are_disjoint one.filter two.filter ≡ true in
+    pairs_map Apart (λ (s : Spot). s.entry) on
+    (pairs_known (λ (s : Spot). (s.array == array) ≡ true) MatchNone (λ (s t : Spot). Apart s.entry t.entry)
+    (λ s t one two apart. apart (eqb-true s.array array one ∙ sym (eqb-true t.array array two))) on
+    (filter_passes (λ (s : Spot). s.array == array) spots) (AllPairs-filter MatchNone (λ (s : Spot). s.array == array) spots pairs))
+
+-- the filters of an array's entries match no vector in common
+pub rules_disjoint : (geometry : Geometry) (all : List Outline) (array : ℕ) → Sound geometry all
+    → AllPairs (λ (one two : Entry). are_disjoint one.filter two.filter ≡ true) (rules_on (all_spots all) array)
+rules_disjoint geometry all array sound = rules_pairs array (all_spots all) sound.filters

@@ -62,7 +62,6 @@ sound_edited geometry front back o p sound name is regions spots uses = record {
       (uses_between geometry front back o ∙ ap (λ us. all_uses geometry front ++ (us ++ all_uses geometry back)) (sym uses) ∙ sym (uses_between geometry front back p)) sound.units;
 }
 
-
 -- ---- a release
 
 thawed_live : (rows : List Row) → map live_holding (map thawed_row rows) ≡ map live_holding rows

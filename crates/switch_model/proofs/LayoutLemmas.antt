@@ -24,7 +24,8 @@ use Rattle.switch_model.proofs.IsolationLemmas.{RecordAt, record_at}
 use Rattle.switch_model.proofs.AddLemmas.{news_apart, all_placed}
 use Rattle.switch_model.proofs.EditLemmas.{moved_by, region_of, AreMoved, are_moved, all_moving, moved_apart}
 use Rattle.placer.specs.Sights.{Sight, region_for}
-use Rattle.placer.proofs.PlacementLemmas.{ArePlaces, placed_accepted}
+use Rattle.placer.specs.Laws.{ArePlaces}
+use Rattle.placer.proofs.PlacementLemmas.{placed_accepted}
 use Rattle.switch_model.proofs.CallLemmas.{and_parts, apart_misses}
 use Rattle.switch_model.proofs.AnySizeLemmas.{cells_any_size}
 use Rattle.switch_model.proofs.StandLemmas.{holding_of, stands_hold}

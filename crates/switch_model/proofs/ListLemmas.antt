@@ -279,6 +279,18 @@ pub record Split {X Y : Type 0} (f : X → Y) (xs : List X) (ys : List Y) (y : Y
   pub heres : f one ≡ y
   pub backs : map f back ≡ zs
 
+split_more : {X Y : Type 0} (f : X → Y) (x : X) (xs : List X) (z : Y) (ys : List Y) (y : Y) (zs : List Y) → f x ≡ z → Split f xs ys y zs
+    → Split f (x ∷ xs) (z ∷ ys) y zs
+split_more f x xs z ys y zs here more = record {
+  front = x ∷ more.front;
+  one = more.one;
+  back = more.back;
+  is = ap (λ ws. x ∷ ws) more.is;
+  fronts = ap₂ (λ w ws. w ∷ ws) here more.fronts;
+  heres = more.heres;
+  backs = more.backs;
+}
+
 pub split_map : {X Y : Type 0} (f : X → Y) (xs : List X) (ys : List Y) (y : Y) (zs : List Y) → map f xs ≡ ys ++ y ∷ zs → Split f xs ys y zs
 split_map f [] [] y zs e = absurd (cc)
 split_map f [] (z ∷ ys) y zs e = absurd (cc)
@@ -289,16 +301,7 @@ split_map f (x ∷ xs) [] y zs e =
 split_map f (x ∷ xs) (z ∷ ys) y zs e =
     let here : f x ≡ z = cc in
     let rest : map f xs ≡ ys ++ y ∷ zs = cc in
-    let more : Split f xs ys y zs = split_map f xs ys y zs rest in
-    record {
-      front = x ∷ more.front;
-      one = more.one;
-      back = more.back;
-      is = ap (λ ws. x ∷ ws) more.is;
-      fronts = ap₂ (λ w ws. w ∷ ws) here more.fronts;
-      heres = more.heres;
-      backs = more.backs;
-    }
+    split_more f x xs z ys y zs here (split_map f xs ys y zs rest)
 
 pub position_here : {X : Type 0} (test : X → Bool) (front back : List X) (x : X) → All (λ y. test y ≡ false) front → test x ≡ true
     → position test (front ++ x ∷ back) ≡ Some (length front)

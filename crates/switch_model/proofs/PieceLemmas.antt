@@ -110,7 +110,6 @@ rises_same geometry Hll one two p q e f less = omega arith
 rises_same geometry FlagOr one two p q e f less = omega arith
 rises_same geometry FlagAnd one two p q e f less = omega arith
 
-
 -- ---- the entries of rows, as far as they must differ
 
 pub record Key : Type 0 where

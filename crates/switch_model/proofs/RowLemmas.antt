@@ -17,7 +17,7 @@ use Rattle.sketch_defs.specs.Tasks.{Sketch, first_fault, is_no_key, allows_rows,
 use Rattle.std.specs.Str.{bytes_eq}
 use Rattle.placer.specs.declared.places.Place.{Place}
 use Rattle.placer.specs.Sights.{units_at, taken_at, rules_at}
-use Rattle.placer.proofs.PlacementLemmas.{IsPlaceOn}
+use Rattle.placer.specs.Laws.{IsPlaceOn}
 use Rattle.placer.proofs.SightLemmas.{IsSize, region_for_found}
 use Rattle.switch_model.specs.Records.{Row, UnitMask, Outline}
 use Rattle.switch_model.specs.Sights.{GroupUse, group_uses, row_uses, uses_by, all_uses, units_on, sight_of}
