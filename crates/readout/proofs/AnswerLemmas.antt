@@ -24,12 +24,15 @@ use Rattle.readout.specs.declared.faults.ReadFault.TheVariants.{Write}
 use Rattle.readout.specs.declared.refusals.Stop.{Stop}
 use Rattle.readout.specs.declared.refusals.Stop.TheVariants as stops
 use Rattle.std.specs.Result.{IsErrAnd, IfErr, OnErr}
+use Rattle.readout.specs.declared.requests.Ask.{Ask}
+use Rattle.readout.specs.declared.requests.Request.{Request}
+use Rattle.readout.specs.declared.requests.Request.TheVariants.{Task, Show, Stat}
 use Rattle.readout.specs.declared.views.Side.{Side}
 use Rattle.readout.specs.declared.views.Side.TheVariants.{Live, Frozen}
 use Rattle.readout.specs.Parts.{Rows, SketchPart}
-use Rattle.readout.specs.PlacedTasks.{PlacedTask, HasSide, place_at, part_in, rows_of_side}
-use Rattle.readout.specs.Lines.{query_line, dist_lines, card_line}
-use Rattle.readout.specs.Answers.{Answer, lines_of_rows, lines_of_frozen, lines_of_cells, line_of_reply, line_of_query, lines_of_dist, line_of_card, answer_if_live, is_mrac, is_hll}
+use Rattle.readout.specs.PlacedTasks.{PlacedTask, View, HasSide, place_at, part_in, parts_in, rows_of_side}
+use Rattle.readout.specs.Lines.{query_line, dist_lines, card_line, show_lines, stat_lines}
+use Rattle.readout.specs.Answers.{Answer, lines_of_rows, lines_of_frozen, lines_of_cells, line_of_reply, line_of_query, lines_of_dist, line_of_card, answer_if_live, answer_by, answer_to, task_answer, is_mrac, is_hll}
 use Rattle.readout.specs.Outcomes.{Outcome, Judges, IsAllowed, Replies, outcome_of}
 use Rattle.readout.proofs.CellLemmas.{told_all, told_then}
 
@@ -253,3 +256,33 @@ shown_so (Err fault) cells before after lines write sent =
 pub shown_stop : (result : Result (Unit {0}) ReadFault) (P : Stop → Type 0) → IfErr result (λ fault. fault ≡ Write) → OnErr result (P stops.Write) → IfErr (outcome_of result) P
 shown_stop (Ok x) P write stop = tt
 shown_stop (Err fault) P write stop = subst (λ f. IfErr (outcome_of (Err f)) P) (sym write) stop
+
+-- ---- requests
+
+pub task_replies : (hash_key : List ℕ) (view : View) (request : Request) (name : List ℕ) (ask asked : Ask) (cells : Option Contents) (before after : Option (List ℕ)) (outcome : Outcome)
+    → request ≡ Task name ask → ask ≡ asked
+    → Replies (λ told. answer_by name (task_answer hash_key asked) (parts_in told view)) cells before outcome after
+    → Replies (λ told. answer_to hash_key request view (parts_in told view)) cells before outcome after
+unfolding answer_to
+task_replies hash_key view request name ask asked cells before after outcome is asks replies =
+    subst (λ (r : Request). Replies (λ told. answer_to hash_key r view (parts_in told view)) cells before outcome after) (sym is)
+    (subst (λ (a : Ask). Replies (λ told. answer_by name (task_answer hash_key a) (parts_in told view)) cells before outcome after) (sym asks) replies)
+
+pub view_replies : (hash_key : List ℕ) (view : View) (request asked : Request) (lines : List ℕ) (cells : Option Contents) (before after : Option (List ℕ)) (outcome : Outcome)
+    → request ≡ asked → ((parts : List SketchPart) → answer_to hash_key asked view parts ≡ Ok lines)
+    → Replies (λ told. Ok lines) cells before outcome after
+    → Replies (λ told. answer_to hash_key request view (parts_in told view)) cells before outcome after
+view_replies hash_key view request asked lines cells before after outcome is all replies =
+    subst (λ (r : Request). Replies (λ told. answer_to hash_key r view (parts_in told view)) cells before outcome after) (sym is) (record {
+      verdict = λ told. subst (λ (a : Answer). Judges a before outcome after) (sym (all (parts_in told view))) (replies.verdict told);
+      sent = told_then cells (λ told. Sends before lines outcome after) (λ told. IfOk (answer_to hash_key asked view (parts_in told view)) (λ l. Sends before l outcome after))
+          (λ told p. subst (λ (a : Answer). IfOk a (λ l. Sends before l outcome after)) (sym (all (parts_in told view))) p) replies.sent;
+    })
+
+pub shows : (hash_key : List ℕ) (view : View) (parts : List SketchPart) → answer_to hash_key Show view parts ≡ Ok (show_lines view)
+unfolding answer_to
+shows hash_key view parts = refl
+
+pub stats : (hash_key : List ℕ) (view : View) (parts : List SketchPart) → answer_to hash_key Stat view parts ≡ Ok (stat_lines view)
+unfolding answer_to
+stats hash_key view parts = refl

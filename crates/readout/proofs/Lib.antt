@@ -6,3 +6,5 @@ mod PieceLemmas
 mod PlacedTaskLemmas
 mod QueryLemmas
 mod ShowLemmas
+mod TwoTasksLemmas
+pub mod Values

@@ -1,6 +1,7 @@
 -- Tasks found in a list, and what a fit task has.
 use Rattle.std.proofs.Common.{◌≡◌, ℕ, zero, suc, ◌^◌, ◌<◌, ◌≤◌, if◌then◌else◌, Bool, true, false, cond, not, nat_lt, nat_le, List, [], ◌∷◌, length, map, slice_index_or, Option, None, Some, option_map, is_some, unwrap_or, IfSome, refl, sym, ap, ◌∙◌, arith}
-use Rattle.std.specs.List.{find, position, position_or_len, slice_get}
+use Rattle.std.specs.List.{All, find, position, position_or_len, slice_get}
+use Rattle.std.proofs.lemmas.List.Elements.{All-head, All-tail}
 use Rattle.std.specs.Str.{bytes_eq}
 use Rattle.std.proofs.lemmas.List.Folds.{find_at}
 use Rattle.std.proofs.lemmas.Bool.{cond_both, false≢true}
@@ -114,3 +115,13 @@ array_exists view at row fit below inside = (row_placed view at row fit below in
 
 pub ranks_bits : (view : View) (at : ℕ) → IsFit view → at < length view.tasks → (task_in view at).task.kind ≡ Hll → 4 ≤ live_bits (task_in view at)
 ranks_bits view at fit below is = (placed_task_fit view at fit below).ranks is
+
+-- a task that is found has room where all have
+pub found_within : (name : List ℕ) (tasks : List PlacedTask) (most : ℕ) → All (λ placed. live_bits placed ≤ most) tasks
+    → IfSome (find (is_named name) tasks) (λ placed. live_bits placed ≤ most)
+found_within name [] most room = tt
+found_within name (placed ∷ tasks) most room =
+    elim (is_named name placed) as (λ b. IfSome (cond b (Some placed) (find (is_named name) tasks)) (λ placed. live_bits placed ≤ most)) [
+      | true ↦ All-head (λ placed. live_bits placed ≤ most) placed tasks room
+      | false ↦ found_within name tasks most (All-tail (λ placed. live_bits placed ≤ most) placed tasks room)
+    ]

@@ -114,7 +114,14 @@ fn begin_cells<V: TaskView>(view: &V, source: Source) -> Piece
     let task = view.task(source.task);
     let size = cell_count(part_of(first_place(view, source.task), source.side));
     let mut piece = Piece::new();
-    put_head(&mut piece, source.side, task.name(), row_count(task), size, source.start);
+    put_head(
+        &mut piece,
+        source.side,
+        task.name(),
+        row_count(task),
+        size,
+        source.start,
+    );
     piece
 }
 

@@ -25,11 +25,7 @@ fn find_task<V: TaskView>(view: &V, name: &Name) -> Option<usize>
 
 /// The place of the task whose partitions of this side are told, or the first cause why there are
 /// none.
-pub(crate) fn judge_cells<V: TaskView>(
-    view: &V,
-    name: &Name,
-    side: Side,
-) -> Result<usize, Refusal>
+pub(crate) fn judge_cells<V: TaskView>(view: &V, name: &Name, side: Side) -> Result<usize, Refusal>
     requires { IsFit (V.seen view.now) }
     ensures found { IfOk result (λ at. (told : Contents) → part_named name.now (parts_in told (V.seen view.now))
         ≡ Some (part_in told (task_in (V.seen view.now) at))) }
@@ -58,11 +54,7 @@ fn is_frozen<V: TaskView>(view: &V, at: usize) -> bool
 }
 
 /// The place of the task that answers this key value, or the first cause why none does.
-pub(crate) fn judge_query<V: TaskView>(
-    view: &V,
-    name: &Name,
-    at: &Filter,
-) -> Result<usize, Refusal>
+pub(crate) fn judge_query<V: TaskView>(view: &V, name: &Name, at: &Filter) -> Result<usize, Refusal>
     ensures found { IfOk result (λ number. (told : Contents) → part_named name.now (parts_in told (V.seen view.now))
         ≡ Some (part_in told (task_in (V.seen view.now) number))) }
     ensures below { IfOk result (λ number. number < length (V.seen view.now).tasks) }

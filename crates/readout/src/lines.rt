@@ -157,8 +157,7 @@ fn put_keys(piece: &mut Piece, keys: KeyUse)
         KeyUse::Single { unit } => piece.push_str(Buffer::new().format(unit)),
         KeyUse::Pair { one, two } => {
             piece.push_str(Buffer::new().format(one));
-            piece.push_str("+");
-            piece.push_str(Buffer::new().format(two));
+            put_number(piece, "+", two);
         }
     }
 }

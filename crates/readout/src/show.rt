@@ -73,7 +73,11 @@ fn gather_task<V: TaskView, S: Sink>(
 }
 
 /// Gathers the lines of all tasks.
-fn gather_tasks<V: TaskView, S: Sink>(view: &V, sink: &mut S, piece: &mut Piece) -> Result<(), Failed>
+fn gather_tasks<V: TaskView, S: Sink>(
+    view: &V,
+    sink: &mut S,
+    piece: &mut Piece,
+) -> Result<(), Failed>
     requires { IsFit (V.seen view.now) }
     ensures cause { HasCause (S.faults sink.old) (S.faults sink.new) result }
     ensures sent { Gathers (S.sent sink.old) piece.old.bytes (flat_map (task_lines (V.seen view.now).geometry) (V.seen view.now).tasks)

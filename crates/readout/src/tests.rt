@@ -1,14 +1,13 @@
 //! Read-outs over a view of two tasks, of which the first has frozen partitions.
-ghost use Rattle.std.specs.Prelude.{◌≡◌, ℕ, ◌+◌, ◌^◌, ◌<◌, ◌≤◌, ◌∷◌, [], None, length, IfSome, IfOk};
-ghost use Rattle.std.specs.List.{All};
+ghost use Rattle.std.specs.Prelude.{◌≡◌, ℕ, ◌+◌, ◌^◌, ◌<◌, ◌≤◌, ◌==◌, if◌then◌else◌, ◌∷◌, [], Some, None, length, IfSome, IfOk};
 ghost use Rattle.addr_translate.specs.Geometry.{equal_geometry};
 ghost use Rattle.sketch_defs.specs.declared.kinds.Kind.TheVariants.{Cms, Hll};
 ghost use Rattle.addr_translate.specs.Blocks.{IsAligned};
-ghost use Rattle.group_keys.specs.declared.uses.KeyUse.TheVariants.{Single};
-ghost use Rattle.readout.specs.PlacedTasks.{live_bits, IsFit, IsShaped};
+ghost use Rattle.group_keys.specs.declared.uses.KeyUse.TheVariants.{Single, Pair};
+ghost use Rattle.readout.specs.PlacedTasks.{AreWithin, IsFit, IsShaped};
 
 use crate::places::part_of;
-use crate::{Placed, ReadFault, Readout, Side, TaskView};
+use crate::{Ask, Placed, ReadFault, Readout, Refusal, Request, Side, TaskView, refused_line};
 use addr_translate::{GroupShape, Region, Shape};
 use fm_io::MemSink;
 use group_keys::KeyUse;
@@ -44,18 +43,14 @@ struct TwoTasks {
 }
 
 impl TaskView for TwoTasks {
-    ghost geometry = { λ view. equal_geometry 2 (record { cmus = 2; units = 2; bits = 10 }) 5 };
-
-    ghost tasks = { λ view. (record { task = view.hot; places = view.first ∷ view.second ∷ [] })
-        ∷ (record { task = view.other; places = view.third ∷ [] }) ∷ [] };
-
-    ghost masks = { λ view group unit. None };
-
-    ghost free_counts = { λ view array. 7 };
-
-    ghost largest_free = { λ view array. 4 };
-
-    ghost live_counts = { λ view array. 1 };
+    ghost seen = { λ view. record {
+      geometry = equal_geometry 2 (record { cmus = 2; units = 2; bits = 10 }) 5;
+      tasks = (record { task = view.hot; places = view.first ∷ view.second ∷ [] }) ∷ (record { task = view.other; places = view.third ∷ [] }) ∷ [];
+      mask = λ group unit. if unit == 0 then Some view.hot.key else None;
+      free = λ array. 7;
+      largest = λ array. 4;
+      rows = λ array. 1;
+    } };
 
     fn shape(&self) -> Shape {
         four_arrays()
@@ -87,8 +82,12 @@ impl TaskView for TwoTasks {
         }
     }
 
-    fn unit(&self, _group: u32, _unit: u32) -> Option<Mask> {
-        None
+    fn unit(&self, _group: u32, unit: u32) -> Option<Mask> {
+        if unit == 0 {
+            Some(*self.hot.key())
+        } else {
+            None
+        }
     }
 
     fn free_count(&self, _array: u32) -> u32 {
@@ -119,13 +118,18 @@ impl TaskView for TwoTasks {
     }
 }
 
-/// A row on this array, with its partition.
-fn place(array: u32, base: u32, bits: u32, frozen: Option<Region>) -> Placed
+/// A key of one unit.
+const SINGLE: KeyUse = KeyUse::Single { unit: 0 };
+
+/// A key of two units.
+const PAIR: KeyUse = KeyUse::Pair { one: 0, two: 1 };
+
+/// A row on this array, with its partition and key.
+fn place(array: u32, base: u32, bits: u32, keys: KeyUse, frozen: Option<Region>) -> Placed
     requires { IsAligned base bits }
-    ensures { result ≡ (record { array = array; region = record { base = base; bits = bits }; keys = Single 0; frozen = frozen }) }
+    ensures { result ≡ (record { array = array; region = record { base = base; bits = bits }; keys = keys; frozen = frozen }) }
 {
     let region = Region { base, bits };
-    let keys = KeyUse::Single { unit: 0 };
     Placed {
         array,
         region,
@@ -144,15 +148,15 @@ fn view_of(hot: Task, other: Task, bits: u32) -> TwoTasks
     requires other_size { other.size ≡ 2 ^ bits }
     requires few { bits ≤ 9 }
     requires ranks { other.kind ≡ Hll → 4 ≤ bits }
-    ensures fit { IsFit (equal_geometry 2 (record { cmus = 2; units = 2; bits = 10 }) 5) (⟦<TwoTasks as TaskView>⟧.tasks result) }
-    ensures room { All (λ placed. live_bits placed ≤ 9) (⟦<TwoTasks as TaskView>⟧.tasks result) }
+    ensures fit { IsFit (⟦<TwoTasks as TaskView>⟧.seen result) }
+    ensures room { AreWithin 9 (⟦<TwoTasks as TaskView>⟧.seen result) }
 {
     TwoTasks {
         hot,
-        first: place(1, 32, 2, Some(Region { base: 8, bits: 1 })),
-        second: place(3, 64, 2, Some(Region { base: 16, bits: 1 })),
+        first: place(1, 32, 2, SINGLE, Some(Region { base: 8, bits: 1 })),
+        second: place(3, 64, 2, PAIR, Some(Region { base: 16, bits: 1 })),
         other,
-        third: place(0, 0, bits, None),
+        third: place(0, 0, bits, SINGLE, None),
     }
 }
 
@@ -186,8 +190,8 @@ fn registers(alloc: Global, failing: Vec<u64>) -> Result<TraceFile, Fail>
 
 /// The view with a second task of 512 cells, each of which counts.
 fn sizes_view() -> Option<TwoTasks>
-    ensures fit { IfSome result (λ view. IsFit (equal_geometry 2 (record { cmus = 2; units = 2; bits = 10 }) 5) (⟦<TwoTasks as TaskView>⟧.tasks view)) }
-    ensures room { IfSome result (λ view. All (λ placed. live_bits placed ≤ 9) (⟦<TwoTasks as TaskView>⟧.tasks view)) }
+    ensures fit { IfSome result (λ view. IsFit (⟦<TwoTasks as TaskView>⟧.seen view)) }
+    ensures room { IfSome result (λ view. AreWithin 9 (⟦<TwoTasks as TaskView>⟧.seen view)) }
 {
     let hot = task_of(b"hot", Kind::Cms, 2, Attr::Packets, 4)?;
     let other = task_of(b"m", Kind::Mrac, 1, Attr::Packets, 512)?;
@@ -197,6 +201,8 @@ fn sizes_view() -> Option<TwoTasks>
 /// What the calls of a read-out send that have a name and nothing else.
 #[derive(Clone, Copy, Debug)]
 enum Call {
+    Show,
+    Stat,
     Read,
     Frozen,
     Dist,
@@ -204,8 +210,31 @@ enum Call {
     Query(&'static str),
 }
 
+/// The block of all tasks.
+const SHOWN: &str = "tasks 2
+task hot cms 2 key=src_ip attr=packets filter=all memory=4
+row 0 group 0 cmu 1 base 32 size 4 keys 0 frozen base 8 size 2
+row 1 group 1 cmu 1 base 64 size 4 keys 0+1 frozen base 16 size 2
+task m mrac 1 key=src_ip attr=packets filter=all memory=512
+row 0 group 0 cmu 0 base 0 size 512 keys 0
+end
+";
+
+/// The block of what is in use.
+const USED: &str = "stat groups 2 arrays 4
+group 0 units ffffffff000000000000000000000000 -
+group 1 units ffffffff000000000000000000000000 -
+array 0 free 7 largest 4 live 1
+array 1 free 7 largest 4 live 1
+array 2 free 7 largest 4 live 1
+array 3 free 7 largest 4 live 1
+end
+";
+
 /// Calls, the task, what they answer, and what they send.
-const REPLIES: [(Call, &str, Result<(), ReadFault>, &str); 13] = [
+const REPLIES: [(Call, &str, Result<(), ReadFault>, &str); 15] = [
+    (Call::Show, "hot", Ok(()), SHOWN),
+    (Call::Stat, "hot", Ok(()), USED),
     (
         Call::Read,
         "hot",
@@ -246,13 +275,15 @@ fn answer(
     name: &Name,
     sink: &mut MemSink,
 ) -> Result<(), ReadFault>
-    requires fit { IsFit (equal_geometry 2 (record { cmus = 2; units = 2; bits = 10 }) 5) (⟦<TwoTasks as TaskView>⟧.tasks view.now) }
+    requires fit { IsFit (⟦<TwoTasks as TaskView>⟧.seen view.now) }
     requires shaped { IsShaped (equal_geometry 2 (record { cmus = 2; units = 2; bits = 10 }) 5) (⟦<TraceFile as RegFile>⟧.dims regs.old) }
-    requires room { All (λ placed. live_bits placed ≤ readout.old) (⟦<TwoTasks as TaskView>⟧.tasks view.now) }
+    requires room { AreWithin readout.old (⟦<TwoTasks as TaskView>⟧.seen view.now) }
     ensures shaped { ⟦<TraceFile as RegFile>⟧.dims regs.new ≡ ⟦<TraceFile as RegFile>⟧.dims regs.old }
     ensures room { readout.new ≡ readout.old }
 {
     match call {
+        Call::Show => readout.show(view, sink),
+        Call::Stat => readout.stat(view, sink),
         Call::Read => readout.cells(view, regs, name, Side::Live, sink),
         Call::Frozen => readout.cells(view, regs, name, Side::Frozen, sink),
         Call::Dist => readout.dist(view, regs, name, sink),
@@ -327,12 +358,13 @@ fn refusals_read_no_register(rt: HostRuntime) -> Result<(), Fail> {
 }
 
 /// How many bytes of the block were sent where call `failing` fails and the sink has this room. A
-/// piece of 4,094 bytes holds the head and 321 lines.
+/// piece is sent where fewer than 512 bytes are left in it: one of 3,587 holds the head and 282
+/// lines.
 const STOPS: [(u64, usize, Result<(), ReadFault>, usize); 6] = [
     (0, 8192, Ok(()), 6581),
     (9, 8192, Err(ReadFault::Device), 0),
-    (408, 8192, Err(ReadFault::Device), 4094),
-    (519, 8192, Err(ReadFault::Device), 4094),
+    (408, 8192, Err(ReadFault::Device), 3587),
+    (519, 8192, Err(ReadFault::Device), 3587),
     (0, 100, Err(ReadFault::Write), 100),
     (0, 5000, Err(ReadFault::Write), 5000),
 ];
@@ -360,8 +392,30 @@ fn view_of_four_arrays(rt: HostRuntime) -> Result<(), Fail> {
     assert_eq!(rt; view.shape(), four_arrays());
     assert_eq!(rt; view.count(), 2);
     assert_eq!(rt; view.unit(1, 1), None);
+    assert_eq!(rt; view.unit(1, 0), Some(*view.task(0).key()));
     assert_eq!(rt; view.free_count(3), 7);
     assert_eq!(rt; view.largest(3), 4);
     assert_eq!(rt; view.live_rows(3), 1);
+    Ok(())
+}
+
+#[test]
+fn requests_of_two_tasks(rt: HostRuntime) -> Result<(), Fail> {
+    let alloc = rt.alloc();
+    let name = Name::parse(b"hot").ok_or("a name")?;
+    let view = sizes_view().ok_or("a view")?;
+    let mut readout = Readout::new(alloc, 9)?;
+    let mut regs = registers(alloc, Vec::new(alloc))?;
+    let mut sink = MemSink::new(alloc, 4096, 4096, Vec::new(alloc))?;
+    let ask = Ask::Dist;
+    let request = Request::Task { name, ask };
+    let refused = readout.read_out(&view, &mut regs, &standard(), &request, &mut sink);
+    assert_eq!(rt; refused, Ok(Err(Refusal::NoAnswer)));
+    assert_eq!(rt; sink.sent(), b"".as_slice());
+    let line = refused_line(&ask, &name, Refusal::NoAnswer);
+    assert_eq!(rt; line.as_str(), "refused dist hot no answer\n");
+    let told = readout.read_out(&view, &mut regs, &standard(), &Request::Stat, &mut sink);
+    assert_eq!(rt; told, Ok(Ok(())));
+    assert_eq!(rt; sink.sent(), USED.as_bytes());
     Ok(())
 }

@@ -24,7 +24,7 @@ pub returns-in_err-make_room-clause-sent : goal.returns-in_err-make_room-clause-
 returns-in_err-make_room-clause-sent g c =
     let r = g.R.RegFile in let s = g.S.Sink in let v = g.V.TaskView in
     let line : Contents → List ℕ = λ told. cell_line c.args.source.start c.args.row c.args.index
-        (register_at told c.args.source.side (place_in (v.seen c.args.view.now) c.args.source.task c.args.row) c.args.index) in
+    (register_at told c.args.source.side (place_in (v.seen c.args.view.now) c.args.source.task c.args.row) c.args.index) in
     told_all (r.contents c.cell.new.regs)
     (λ told. Gathers (s.sent c.args.sink.now) c.args.piece.now.bytes (line told) c.from_residual-in_err-make_room.result c.make_room.new.piece.bytes (s.sent c.make_room.new.sink))
     (λ told. gathers_at_err c.from_residual-in_err-make_room.result (s.sent c.args.sink.now) (s.sent c.make_room.new.sink) c.args.piece.now.bytes (line told) c.make_room.new.piece.bytes

@@ -13,7 +13,9 @@ returns-in_default-kind g c =
     let kind : c.kind.result ≡ placed.task.kind = c.kind.ensures ∙ ap (λ (t : Sketch). t.kind) c.task.ensures in
     let other : placed.task.kind ≢ Hll = λ e. c.in_default-kind.not-Hll (kind ∙ e) in
     record {
-      found = tt; below = tt; kind = tt;
+      found = tt;
+      below = tt;
+      kind = tt;
       refused = λ told. live_answers line_of_card (part_named c.args.name.now (parts_in told view)) (part_in told placed) _ (c.in-Some.ensures.found told)
           (no_estimate (part_in told placed) other);
     }

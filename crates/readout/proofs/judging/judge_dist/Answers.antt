@@ -13,7 +13,10 @@ returns-in_default-kind g c =
     let kind : c.kind.result ≡ placed.task.kind = c.kind.ensures ∙ ap (λ (t : Sketch). t.kind) c.task.ensures in
     let other : placed.task.kind ≢ Mrac = λ e. c.in_default-kind.not-Mrac (kind ∙ e) in
     record {
-      found = tt; below = tt; named = tt; kind = tt;
+      found = tt;
+      below = tt;
+      named = tt;
+      kind = tt;
       refused = λ told. live_answers lines_of_dist (part_named c.args.name.now (parts_in told view)) (part_in told placed) _ (c.in-Some.ensures.found told)
           (no_sizes (part_in told placed) other);
     }

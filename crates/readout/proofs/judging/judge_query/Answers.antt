@@ -29,7 +29,11 @@ returns-then-ne g c =
     let other : bytes_eq c.args.at.now.mask placed.task.key ≡ false =
     rw (c.mask.ensures.value, key) at (masks_differ c.mask.result.now c.key.result.now c.if-ne.ensures) in
     record {
-      found = tt; below = tt; no_counters = tt; no_ranks = tt; keyed = tt;
+      found = tt;
+      below = tt;
+      no_counters = tt;
+      no_ranks = tt;
+      keyed = tt;
       refused = λ key told. live_answers (line_of_query key c.args.at.now) (part_named c.args.name.now (parts_in told view)) (part_in told placed) _ (c.in-Some.ensures.found told)
           (bad_key key c.args.at.now (part_in told placed) no_counters no_ranks other);
     }

@@ -37,7 +37,7 @@ returns-clause-replies g c =
     let answer : Contents → Answer = λ told. answer_by c.args.name.now (line_of_card) (parts_in told view) in
     let lines : Contents → List ℕ = card_of placed in
     let all : (told : Contents) → answer told ≡ Ok (lines told) = λ told.
-        live_answers (line_of_card) (part_named c.args.name.now (parts_in told view)) (part_in told placed) (Ok (lines told)) (c.in_ok-at.ensures.found told) (card_line_of (part_in told placed) c.in_ok-at.ensures.kind) in
+    live_answers (line_of_card) (part_named c.args.name.now (parts_in told view)) (part_in told placed) (Ok (lines told)) (c.in_ok-at.ensures.found told) (card_line_of (part_in told placed) c.in_ok-at.ensures.kind) in
     sent_so answer (r.contents c.send_card.new.regs) (s.sent c.args.sink.now) (s.sent c.send_card.new.sink) lines all
     (c.in_ok-send_card.ensures.sent)
 
@@ -49,7 +49,7 @@ returns-in_err-send_card-clause-replies g c =
     let answer : Contents → Answer = λ told. answer_by c.args.name.now (line_of_card) (parts_in told view) in
     let lines : Contents → List ℕ = card_of placed in
     let all : (told : Contents) → answer told ≡ Ok (lines told) = λ told.
-        live_answers (line_of_card) (part_named c.args.name.now (parts_in told view)) (part_in told placed) (Ok (lines told)) (c.in_ok-at.ensures.found told) (card_line_of (part_in told placed) c.in_ok-at.ensures.kind) in
+    live_answers (line_of_card) (part_named c.args.name.now (parts_in told view)) (part_in told placed) (Ok (lines told)) (c.in_ok-at.ensures.found told) (card_line_of (part_in told placed) c.in_ok-at.ensures.kind) in
     let failed = c.from_residual-in_err-send_card in
     stopped_so answer (r.contents c.send_card.new.regs) (s.sent c.args.sink.now) (s.sent c.send_card.new.sink) lines (outcome_of failed.result) c.in_err-send_card.field-0.0
     (stop_told failed.result c.in_err-send_card.field-0.0 failed.ensures.1) all

@@ -37,7 +37,7 @@ returns-clause-replies g c =
     let answer : Contents → Answer = λ told. answer_by c.args.name.now (lines_of_cells c.args.side) (parts_in told view) in
     let lines : Contents → List ℕ = block_of_cells c.args.side placed in
     let all : (told : Contents) → answer told ≡ Ok (lines told) = λ told.
-        live_answers (lines_of_cells c.args.side) (part_named c.args.name.now (parts_in told view)) (part_in told placed) (Ok (lines told)) (c.in_ok-at.ensures.found told) (cells_lines_of c.args.side placed c.in_ok-at.ensures.side told) in
+    live_answers (lines_of_cells c.args.side) (part_named c.args.name.now (parts_in told view)) (part_in told placed) (Ok (lines told)) (c.in_ok-at.ensures.found told) (cells_lines_of c.args.side placed c.in_ok-at.ensures.side told) in
     sent_so answer (r.contents c.send_cells.new.regs) (s.sent c.args.sink.now) (s.sent c.send_cells.new.sink) lines all
     (c.in_ok-send_cells.ensures.sent)
 
@@ -49,7 +49,7 @@ returns-in_err-send_cells-clause-replies g c =
     let answer : Contents → Answer = λ told. answer_by c.args.name.now (lines_of_cells c.args.side) (parts_in told view) in
     let lines : Contents → List ℕ = block_of_cells c.args.side placed in
     let all : (told : Contents) → answer told ≡ Ok (lines told) = λ told.
-        live_answers (lines_of_cells c.args.side) (part_named c.args.name.now (parts_in told view)) (part_in told placed) (Ok (lines told)) (c.in_ok-at.ensures.found told) (cells_lines_of c.args.side placed c.in_ok-at.ensures.side told) in
+    live_answers (lines_of_cells c.args.side) (part_named c.args.name.now (parts_in told view)) (part_in told placed) (Ok (lines told)) (c.in_ok-at.ensures.found told) (cells_lines_of c.args.side placed c.in_ok-at.ensures.side told) in
     let failed = c.from_residual-in_err-send_cells in
     stopped_so answer (r.contents c.send_cells.new.regs) (s.sent c.args.sink.now) (s.sent c.send_cells.new.sink) lines (outcome_of failed.result) c.in_err-send_cells.field-0.0
     (stop_told failed.result c.in_err-send_cells.field-0.0 failed.ensures.1) all

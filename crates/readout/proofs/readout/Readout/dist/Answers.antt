@@ -39,7 +39,7 @@ returns-clause-replies g c =
     let answer : Contents → Answer = λ told. answer_by c.args.name.now (lines_of_dist) (parts_in told view) in
     let lines : Contents → List ℕ = dist_of placed in
     let all : (told : Contents) → answer told ≡ Ok (lines told) = λ told.
-        live_answers (lines_of_dist) (part_named c.args.name.now (parts_in told view)) (part_in told placed) (Ok (lines told)) (c.in_ok-at.ensures.found told) (dist_lines_of (part_in told placed) c.in_ok-at.ensures.kind) in
+    live_answers (lines_of_dist) (part_named c.args.name.now (parts_in told view)) (part_in told placed) (Ok (lines told)) (c.in_ok-at.ensures.found told) (dist_lines_of (part_in told placed) c.in_ok-at.ensures.kind) in
     sent_so answer (r.contents c.send_dist.new.regs) (s.sent c.args.sink.now) (s.sent c.send_dist.new.sink) lines all
     (c.in_ok-send_dist.ensures.sent)
 
@@ -51,7 +51,7 @@ returns-in_err-send_dist-clause-replies g c =
     let answer : Contents → Answer = λ told. answer_by c.args.name.now (lines_of_dist) (parts_in told view) in
     let lines : Contents → List ℕ = dist_of placed in
     let all : (told : Contents) → answer told ≡ Ok (lines told) = λ told.
-        live_answers (lines_of_dist) (part_named c.args.name.now (parts_in told view)) (part_in told placed) (Ok (lines told)) (c.in_ok-at.ensures.found told) (dist_lines_of (part_in told placed) c.in_ok-at.ensures.kind) in
+    live_answers (lines_of_dist) (part_named c.args.name.now (parts_in told view)) (part_in told placed) (Ok (lines told)) (c.in_ok-at.ensures.found told) (dist_lines_of (part_in told placed) c.in_ok-at.ensures.kind) in
     let failed = c.from_residual-in_err-send_dist in
     stopped_so answer (r.contents c.send_dist.new.regs) (s.sent c.args.sink.now) (s.sent c.send_dist.new.sink) lines (outcome_of failed.result) c.in_err-send_dist.field-0.0
     (stop_told failed.result c.in_err-send_dist.field-0.0 failed.ensures.1) all

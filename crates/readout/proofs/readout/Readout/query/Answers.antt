@@ -39,7 +39,7 @@ returns-clause-replies g c =
     let answer : Contents → Answer = λ told. answer_by c.args.name.now (line_of_query c.args.hash_key.now c.args.at.now) (parts_in told view) in
     let lines : Contents → List ℕ = λ told. query_line placed.task.name (some_query_line c.args.hash_key.now c.args.at.now (part_in told placed) c.in_ok-number.ensures.no_counters c.in_ok-number.ensures.no_ranks c.in_ok-number.ensures.keyed).0 in
     let all : (told : Contents) → answer told ≡ Ok (lines told) = λ told.
-        live_answers (line_of_query c.args.hash_key.now c.args.at.now) (part_named c.args.name.now (parts_in told view)) (part_in told placed) (Ok (lines told)) (c.in_ok-number.ensures.found told) ((some_query_line c.args.hash_key.now c.args.at.now (part_in told placed) c.in_ok-number.ensures.no_counters c.in_ok-number.ensures.no_ranks c.in_ok-number.ensures.keyed).1) in
+    live_answers (line_of_query c.args.hash_key.now c.args.at.now) (part_named c.args.name.now (parts_in told view)) (part_in told placed) (Ok (lines told)) (c.in_ok-number.ensures.found told) ((some_query_line c.args.hash_key.now c.args.at.now (part_in told placed) c.in_ok-number.ensures.no_counters c.in_ok-number.ensures.no_ranks c.in_ok-number.ensures.keyed).1) in
     sent_so answer (r.contents c.send_query.new.regs) (s.sent c.args.sink.now) (s.sent c.send_query.new.sink) lines all
     (told_line (r.contents c.send_query.new.regs) (λ told. line_of_query c.args.hash_key.now c.args.at.now (part_in told placed)) lines
     (λ line. Sends {T = Unit {0}} {E = Stop} (s.sent c.args.sink.now) line (Ok c.in_ok-send_query.field-0) (s.sent c.send_query.new.sink))
@@ -53,7 +53,7 @@ returns-in_err-send_query-clause-replies g c =
     let answer : Contents → Answer = λ told. answer_by c.args.name.now (line_of_query c.args.hash_key.now c.args.at.now) (parts_in told view) in
     let lines : Contents → List ℕ = λ told. query_line placed.task.name (some_query_line c.args.hash_key.now c.args.at.now (part_in told placed) c.in_ok-number.ensures.no_counters c.in_ok-number.ensures.no_ranks c.in_ok-number.ensures.keyed).0 in
     let all : (told : Contents) → answer told ≡ Ok (lines told) = λ told.
-        live_answers (line_of_query c.args.hash_key.now c.args.at.now) (part_named c.args.name.now (parts_in told view)) (part_in told placed) (Ok (lines told)) (c.in_ok-number.ensures.found told) ((some_query_line c.args.hash_key.now c.args.at.now (part_in told placed) c.in_ok-number.ensures.no_counters c.in_ok-number.ensures.no_ranks c.in_ok-number.ensures.keyed).1) in
+    live_answers (line_of_query c.args.hash_key.now c.args.at.now) (part_named c.args.name.now (parts_in told view)) (part_in told placed) (Ok (lines told)) (c.in_ok-number.ensures.found told) ((some_query_line c.args.hash_key.now c.args.at.now (part_in told placed) c.in_ok-number.ensures.no_counters c.in_ok-number.ensures.no_ranks c.in_ok-number.ensures.keyed).1) in
     let failed = c.from_residual-in_err-send_query in
     stopped_so answer (r.contents c.send_query.new.regs) (s.sent c.args.sink.now) (s.sent c.send_query.new.sink) lines (outcome_of failed.result) c.in_err-send_query.field-0.0
     (stop_told failed.result c.in_err-send_query.field-0.0 failed.ensures.1) all
