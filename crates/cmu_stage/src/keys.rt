@@ -28,6 +28,8 @@ pub fn compress(tables: &ByteTables<KEY_BYTES>, units: &GroupKeys, vec: &KeyVec)
 }
 
 /// The key that one unit makes of a vector.
+// Inlined, so that a free unit costs one test.
+#[inline(always)]
 fn unit_key(tables: &ByteTables<KEY_BYTES>, units: &GroupKeys, unit: u32, vec: &KeyVec) -> u32
     requires { unit < 4 }
     ensures { result ≡ unit_key tables.now vec.now (unit_at units.now unit) }

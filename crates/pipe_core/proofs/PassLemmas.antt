@@ -13,7 +13,7 @@ use Rattle.group_keys.specs.Units.{UsedUnit}
 use Rattle.match_table.specs.Tables.{EntryTable}
 use Rattle.cmu_stage.specs.Keys.{keys_of}
 use Rattle.cmu_stage.specs.Passing.{IsEntry, calls_at}
-use Rattle.pipe_core.specs.Rules.{Rules, IsPipe, IsShaped, no_table, table_at, units_in, entries_on, first_in, cmus_in}
+use Rattle.pipe_core.specs.Rules.{Rules, IsPipe, IsShaped, no_table, table_at, units_in, first_in, cmus_in}
 use Rattle.pipe_core.specs.Groups.{keys_in, array_calls, group_calls}
 use Rattle.pipe_core.proofs.FirstLemmas.{array_exists, first_more, first_last}
 use Rattle.pipe_core.proofs.RuleLemmas.{entries_stand}

@@ -1,5 +1,5 @@
 -- What holds of rules, and what changes keep of it.
-use Rattle.std.proofs.Common.{◌≡◌, ℕ, zero, suc, ◌+◌, ◌<◌, ◌≤◌, ◌^◌, ◌*◌, ◌%◌, List, [], ◌∷◌, ◌++◌, length, get_or, set, map, replicate, refl, ap, sym, ◌∙◌, subst, arith, ⊎_elim, pow_mono}
+use Rattle.std.proofs.Common.{◌≡◌, ℕ, ◌+◌, ◌<◌, ◌≤◌, ◌^◌, ◌*◌, ◌%◌, List, [], ◌∷◌, length, get_or, set, map, replicate, ap, sym, ◌∙◌, subst, arith, ⊎_elim, pow_mono}
 use Rattle.std.proofs.lemmas.Nat.{pow_pos}
 use Rattle.std.specs.Prelude.{Option, None, Some, Bool, true, false, if◌then◌else◌, MatchOption}
 use Rattle.std.specs.List.{All}

@@ -1,6 +1,6 @@
 -- What calls leave, one after another, and calls on other arrays.
-use Rattle.std.proofs.Common.{◌≡◌, ◌≢◌, ℕ, Bool, true, false, List, [], ◌∷◌, ◌++◌, get_or, refl, ap, ap₂, sym, ◌∙◌, subst, arith, eq-eqb, ⊎_elim}
-use Rattle.std.specs.Prelude.{◌&&◌, ◌||◌, ◌==◌, Option, None, Some, fold, slice_set, slice_index}
+use Rattle.std.proofs.Common.{◌≡◌, ◌≢◌, ℕ, Bool, true, false, List, [], ◌∷◌, ◌++◌, get_or, refl, ap, ap₂, sym, ◌∙◌, arith, eq-eqb, ⊎_elim}
+use Rattle.std.specs.Prelude.{◌||◌, ◌==◌, Option, slice_set}
 use Rattle.std.specs.List.{list_any, All}
 use Rattle.std.proofs.Math.Path.{fun_ext}
 use Rattle.std.proofs.lemmas.Bool.{cases_eq, false≢true}
@@ -12,7 +12,7 @@ use Rattle.std.proofs.lemmas.List.Folds.{list_any-append}
 use Rattle.outside.specs.Told.{Told, Stays, Grows}
 use Rattle.outside.proofs.ToldLemmas.{told_then, told_weaker, grows_then, grows_none}
 use Rattle.stateful_ops.specs.declared.ops.Op.{Op}
-use Rattle.stateful_ops.specs.Ops.{new_register, carry_of}
+use Rattle.stateful_ops.specs.Ops.{carry_of}
 use Rattle.reg_file.specs.declared.traits.Call.{Call}
 use Rattle.reg_file.specs.Registers.{Contents, MakesCall}
 use Rattle.reg_file.specs.Calls.{made, all_made, carry_in, handed, is_on, Makes, MakesOver}

@@ -1,4 +1,4 @@
-use Rattle.std.proofs.Common.{◌≡◌, ℕ, ◌+◌, ◌-◌, ◌<◌, ◌∙◌, sym, ap, subst, arith, rules}
+use Rattle.std.proofs.Common.{ap, arith, rules}
 use Rattle.reg_file.specs.Registers.{Dims}
 use Rattle.pipe_core.proofs.PassLemmas.{is_in_group, entries_fit, array_step, arrays_whole, group_ends}
 use Rattle.pipe_core.proofs.pipe.Pipe.pass_arrays.Goals as goal

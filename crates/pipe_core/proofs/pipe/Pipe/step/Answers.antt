@@ -1,5 +1,4 @@
-use Rattle.std.proofs.Common.{◌≡◌, ℕ, ◌+◌, ◌∙◌, length, sym, ap, subst, arith, rules}
-use Rattle.addr_translate.specs.Geometry.{Geometry}
+use Rattle.std.proofs.Common.{◌∙◌, length, sym, ap, subst, arith, rules}
 use Rattle.pipe_core.specs.Rules.{Rules, IsPipe}
 use Rattle.pipe_core.proofs.FirstLemmas.{first_next}
 use Rattle.pipe_core.proofs.StepLemmas.{one_group_more, steps_whole}
