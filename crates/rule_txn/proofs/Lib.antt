@@ -21,3 +21,5 @@ mod Giving
 mod Adds
 mod Removed
 mod Resizes
+mod Refilled
+mod Added

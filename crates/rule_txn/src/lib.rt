@@ -7,5 +7,7 @@ mod making;
 mod rows;
 mod seats;
 mod stage;
+mod switch;
 
 pub use faults::{AddFault, ReleaseFault, ResizeFault, StartFail, Unknown};
+pub use switch::Switch;

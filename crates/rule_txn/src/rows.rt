@@ -1,8 +1,8 @@
 //! Live tasks, with the leases that their rows hold.
-ghost use Rattle.std.specs.Prelude.{◌≡◌, ◌≢◌, ◌≤◌, ◌<◌, [], IfSome, Some, length, option_map, map, position, is_some, insert, vec_len, vec_capacity, slice_index_or};
+ghost use Rattle.std.specs.Prelude.{◌≡◌, ◌≢◌, ◌≤◌, ◌<◌, [], IfSome, Some, None, length, option_map, map, position, is_some, insert, vec_len, vec_capacity, slice_index_or};
 ghost use Rattle.addr_translate.specs.Blocks.{Block};
 ghost use Rattle.key_mask.specs.Masks.{no_lengths};
-ghost use Rattle.sketch_defs.specs.Tasks.{Sketch};
+ghost use Rattle.sketch_defs.specs.Tasks.{Sketch, first_fault};
 ghost use Rattle.switch_model.specs.Changes.{is_called};
 ghost use Rattle.switch_model.specs.Records.{Row, Outline};
 ghost use Rattle.rule_txn.specs.State.{there, Lent};
@@ -235,9 +235,10 @@ pub(crate) fn place_of(records: &[Kept], name: &Name) -> Option<usize>
     records.iter().position(|kept| kept.is_called(name))
 }
 
-/// The task with another size.
+/// The task with another size, which is one that there may be.
 pub(crate) fn with_size(task: &Task, size: u32) -> Task
-    ensures { result ≡ record task.now { size = size } }
+    ensures size { result ≡ record task.now { size = size } }
+    ensures allowed { first_fault result ≡ None }
 {
     let parts = Task::new(
         *task.name(),
@@ -252,6 +253,14 @@ pub(crate) fn with_size(task: &Task, size: u32) -> Task
         Ok(task) => task,
         Err(_) => unreachable!(),
     }
+}
+
+/// A copy of the task, which is one that there may be.
+pub(crate) fn copy_of(task: &Task) -> Task
+    ensures same { result ≡ task.now }
+    ensures allowed { first_fault result ≡ None }
+{
+    with_size(task, task.size())
 }
 
 /// Puts a record back to its place.
