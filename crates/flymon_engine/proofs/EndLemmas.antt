@@ -1,116 +1,113 @@
--- How a run that carried out its script, or stopped in it, meets its promises.
-use Rattle.std.proofs.Common.{◌≡◌, ◌⊎◌, ℕ, List, [], ◌++◌, Option, None, Some, IfSome, IfErr, Result, Ok, Err, refl, ap, ◌∙◌, inl, subst}
-use Rattle.outside.specs.Faults.{Rose}
+-- How a run ends once its commands were carried out, and what is known of its files then.
+use Rattle.std.proofs.Common.{◌≡◌, ◌++◌, ℕ, List, [], Option, None, Some, Result, Ok, Err, IfSome, IfErr, ◌≤◌, refl, sym, ap, ◌∙◌, subst, arith}
+use Rattle.outside.specs.Faults as Faults
+use Rattle.outside.specs.Sent.{CameInPart}
+use Rattle.outside.proofs.SentLemmas.{front_of_part}
+use Rattle.std.specs.Result.{OnOk, OnErr}
+use Rattle.std.proofs.lemmas.List.{append-nil}
 use Rattle.outside.specs.Told.{Told, Grows}
-use Rattle.outside.specs.Sent.{CameInFront}
-use Rattle.outside.proofs.ToldLemmas.{told_then, told_weaker}
-use Rattle.capture_read.specs.declared.records.CaptureFault.{CaptureFault}
-use Rattle.pkt_headers.specs.declared.packets.Packet.{Packet}
+use Rattle.outside.proofs.ToldLemmas.{told_then, stays_same, grows_none, grows_then}
+use Rattle.fm_io.specs.Slots.{Cursor}
 use Rattle.reg_file.specs.Registers.{Contents}
 use Rattle.reg_file.specs.declared.traits.Call.{Call}
-use Rattle.sketch_defs.specs.Tasks.{Sketch}
+use Rattle.capture_read.specs.Reading.{Reading}
+use Rattle.capture_read.specs.Steps.{MovesOn}
+use Rattle.sw_profile.specs.declared.profiles.Profile.{Profile}
 use Rattle.task_lang.specs.declared.commands.Command.{Command}
-use Rattle.flymon_engine.specs.declared.status.Status.TheVariants as statuses
 use Rattle.flymon_engine.specs.declared.stop.Halt.{Halt}
-use Rattle.flymon_engine.specs.declared.stop.Halt.TheVariants as halts
-use Rattle.flymon_engine.specs.Endings.{ending_of, IsCarryStop}
-use Rattle.flymon_engine.specs.Script.{Script}
-use Rattle.flymon_engine.specs.Expected.{Carried}
-use Rattle.flymon_engine.specs.Carrying.{HaltHasCause, SendsBy, CallsBy, LaysBy, FaultsBy}
-use Rattle.flymon_engine.specs.Steps.{text_of, calls_all, counted, fault_met}
-use Rattle.flymon_engine.specs.Clauses.{IsVerdict, SendsText, MakesCalls, LaysOut, IsFront, status_by, status_in, StopsAs}
+use Rattle.flymon_engine.specs.declared.stop.Refusal.{Refusal}
+use Rattle.flymon_engine.specs.declared.stop.Refusal.TheVariants as refusals
+use Rattle.flymon_engine.specs.declared.stop.Stop.TheVariants.{Carrying}
+use Rattle.flymon_engine.specs.declared.stop.Halt.TheVariants.{Damage, Input, Device, Output}
+use Rattle.flymon_engine.specs.Causes.{HasCause}
+use Rattle.flymon_engine.specs.Arrivals.{Left, left_in, Comes}
+use Rattle.flymon_engine.specs.Captures.{HasBegun}
+use Rattle.flymon_engine.specs.Boards.{Board, Rules, no_tasks}
+use Rattle.flymon_engine.specs.Moves.{Moves, WasTold}
+use Rattle.flymon_engine.specs.Runs.{Run}
+use Rattle.flymon_engine.specs.Works.{works_of}
+use Rattle.flymon_engine.specs.Words.{Form, Replay}
+use Rattle.flymon_engine.specs.Worlds.{Before, WhereTold, IsAt, EndsAt}
+use Rattle.flymon_engine.specs.Messages.{SendsMessage}
+use Rattle.flymon_engine.specs.Endings.{Seen, Carried, CarriesReplay, Promises, StopsReading, StopsReplay, beginning, finished, carried_as}
 
-pub none_made : (calls : Option (List Call)) → Told (λ old now. (now ≡ old) ⊎ (now ≡ [])) calls calls
-none_made None = tt
-none_made (Some list) = inl refl
+-- the operations of the run and those of its end are all that were made since the list was empty
+made_all : (a b c d : Option (List Call)) (xs ys : List Call) → Told (λ old now. now ≡ []) a b → Grows b xs c → Grows c ys d → Told (λ old now. now ≡ xs ++ ys) a d
+made_all a b c d xs ys empty first last =
+    told_then a b d (λ x y z p q. q ∙ ap (λ l. l ++ (xs ++ ys)) p) empty (grows_then b c d xs ys first last)
 
--- a register file that was not shaped made no operation, and nothing was sent
-pub unshaped_calls : (before after : Option (List Call)) (all : List Call) → Told (λ old now. now ≡ []) before after → Told (λ old now. IsFront now all) before after
-unshaped_calls before after all none =
-    told_weaker before after (λ old now is. record { rest = all; whole = ap (λ calls. calls ++ all) is }) none
+pub carried_on : {T : Type 0} (rules : Rules) (stands0 stands1 lays : Board → Contents → Type 0) (profile : Profile) (reading : Reading)
+    (before after : Seen) (result : Result T Halt) (commands : List Command) (t0 t1 : Option Cursor) (c0 c1 c2 : Option Contents) (calls1 calls2 : Option (List Call))
+    → IfSome t0 (HasBegun reading) → IfSome c0 (stands0 (no_tasks profile))
+    → Told MovesOn t0 t1 → WasTold c0 c1 → WasTold c1 c2
+    → ((base : Before) (start : Run) → WhereTold t0 c0 (λ t c. IsAt stands0 (Comes reading) base calls1 before.sent t c start)
+        → WhereTold t1 c1 (EndsAt rules stands1 base calls2 after.sent result start (works_of commands)))
+    → ((board : Board) → Told (λ old new. stands1 board old → Moves lays (rules.finish board) calls2 after.calls new) c1 c2)
+    → Told (λ old now. now ≡ []) before.calls calls1
+    → WhereTold t1 c2 (Carried rules lays profile before after result commands)
+carried_on rules stands0 stands1 lays profile reading before after result commands t0 None c0 c1 c2 calls1 calls2 begun stood on r s run finish empty = tt
+carried_on rules stands0 stands1 lays profile reading before after result commands None (Some u) c0 c1 c2 calls1 calls2 begun stood on r s run finish empty = absurd on
+carried_on rules stands0 stands1 lays profile reading before after result commands (Some t) (Some u) c0 c1 None calls1 calls2 begun stood on r s run finish empty = tt
+carried_on rules stands0 stands1 lays profile reading before after result commands (Some t) (Some u) c0 None (Some e) calls1 calls2 begun stood on r s run finish empty = absurd s
+carried_on rules stands0 stands1 lays profile reading before after result commands (Some t) (Some u) None (Some d) (Some e) calls1 calls2 begun stood on r s run finish empty = absurd r
+carried_on rules stands0 stands1 lays profile reading before after result commands (Some t) (Some u) (Some c) (Some d) (Some e) calls1 calls2 begun stood on r s run finish empty =
+    let base : Before = record { calls = calls1; sent = before.sent } in
+    let ends = run base (beginning profile begun.left) (record {
+      shows = record {
+        board = stood;
+        made = grows_none calls1 calls1 (stays_same calls1);
+        wrote = grows_none before.sent before.sent (stays_same before.sent);
+      };
+      left = begun.goes_on;
+    }) in
+    let moves = finish ends.end.board ends.shows.board in
+    record {
+      left = begun.left;
+      opened = ap left_in on.bytes ∙ begun.is;
+      end = ends.end;
+      ends = ends.ends;
+      text = ends.shows.wrote;
+      operations = made_all before.calls calls1 calls2 after.calls ends.end.calls (rules.finish ends.end.board).calls empty ends.shows.made moves.made;
+      registers = moves.stood;
+    }
 
--- behind the shaping the list holds what the run made, or a front of it
-pub shaped_calls : (before shaped after : Option (List Call)) (all : List Call) → Told (λ old now. now ≡ []) before shaped → Grows shaped all after
-    → Told (λ old now. now ≡ all) before after
-shaped_calls before shaped after all none grew =
-    told_then before shaped after (λ old mid now is more. more ∙ ap (λ calls. calls ++ all) is) none grew
+-- the promises of a run whose commands were carried out, or stopped
+pub promises_carried : (rules : Rules) (lays : Board → Contents → Type 0) (profile script capture : List ℕ) (before after : Seen) (result : Result (Unit {0}) Halt)
+    → ((halt : Halt) → result ≡ Err halt → HasCause before.files after.files after.last before.regs after.regs before.out after.out halt)
+    → CarriesReplay rules lays profile script capture before after result → Promises rules lays (Replay profile script capture) (carried_as result) before after
+promises_carried rules lays profile script capture before after (Ok x) cause carried = carried
+promises_carried rules lays profile script capture before after (Err halt) cause carried = record { cause = cause halt refl; carried = carried }
 
-pub shaped_front : (before shaped after : Option (List Call)) (all : List Call) → Told (λ old now. now ≡ []) before shaped → CameInFront shaped all after
-    → Told (λ old now. IsFront now all) before after
-shaped_front before shaped after all none front =
-    told_then before shaped after
-    (λ old mid now is more. record { rest = front.rest; whole = ap (λ calls. calls ++ front.rest) (more ∙ ap (λ calls. calls ++ front.so_far.front) is) ∙ front.so_far.whole })
-    none front.so_far.grows
+-- a fault of the commands is one of the run
+pub cause_of_run : (halt : Halt) (f0 f1 f2 last r0 r1 r2 r3 o0 o1 : ℕ) → f0 ≤ f1 → r0 ≤ r1 → r3 ≡ r2
+    → HasCause f1 f2 last r1 r2 o0 o1 halt → HasCause f0 f2 last r0 r3 o0 o1 halt
+cause_of_run (Damage fault) f0 f1 f2 last r0 r1 r2 r3 o0 o1 f r e cause = tt
+cause_of_run Input f0 f1 f2 last r0 r1 r2 r3 o0 o1 f r e cause = (omega (arith, cause.0), cause.1)
+cause_of_run Device f0 f1 f2 last r0 r1 r2 r3 o0 o1 f r e cause = omega arith
+cause_of_run Output f0 f1 f2 last r0 r1 r2 r3 o0 o1 f r e cause = cause
 
--- what holds of the key and the script that were used holds of these
-pub by_same : (P : List ℕ → Script → Type 0) (hash_key used_key : List ℕ) (task used_task : Sketch) (bits used_bits : ℕ) (commands used : List Command)
-    → used_key ≡ hash_key → used_task ≡ task → used_bits ≡ bits → used ≡ commands
-    → P used_key (record { job = record { task = used_task; bits = used_bits }; commands = used })
-    → P hash_key (record { job = record { task = task; bits = bits }; commands = commands })
-by_same P hash_key used_key task used_task bits used_bits commands used same_key same_task same_bits same holds =
-    subst (λ (k : List ℕ). P k (record { job = record { task = task; bits = bits }; commands = commands })) same_key
-    (subst (λ (t : Sketch). P used_key (record { job = record { task = t; bits = bits }; commands = commands })) same_task
-    (subst (λ (b : ℕ). P used_key (record { job = record { task = used_task; bits = b }; commands = commands })) same_bits
-    (subst (λ (list : List Command). P used_key (record { job = record { task = used_task; bits = used_bits }; commands = list })) same holds)))
+-- a file that stopped the run
+pub stops_reading : (profile script capture : List ℕ) (refusal : Refusal) (before after : Seen)
+    → StopsReading profile script capture refusal before after → StopsReplay profile script capture refusal before after
+stops_reading profile script capture refusals.Usage before after stops = stops
+stops_reading profile script capture (refusals.Profile fault) before after stops = stops
+stops_reading profile script capture (refusals.Script fault) before after stops = stops
+stops_reading profile script capture (refusals.Header fault) before after stops = stops
+stops_reading profile script capture (refusals.Input file) before after stops = stops
+stops_reading profile script capture refusals.Device before after stops = absurd stops.texts
+stops_reading profile script capture refusals.Memory before after stops = stops
 
--- a script that was carried out, or stopped
-pub carried_verdict : (result : Result (Unit {0}) Halt) (script : Script) (packets : List Packet) (fault : Option CaptureFault)
-    → FaultsBy (fault_met script packets fault) result → IsVerdict (Some (Carried script packets fault)) (status_in (ending_of result))
-carried_verdict (Ok x) script packets fault faults = ap status_by faults
-carried_verdict (Err (halts.Damage found)) script packets fault faults = ap status_by faults
-carried_verdict (Err halts.Output) script packets fault faults = tt
-carried_verdict (Err halts.Device) script packets fault faults = tt
+pub err_holds : {T : Type 0} (P : Halt → Type 0) (result : Result T Halt) (halt : Halt) → result ≡ Err halt → IfErr result P → P halt
+err_holds P result halt e h = let Q : Result _ Halt → Type 0 = λ r. IfErr r P in subst Q e h
 
-pub carried_damage : (result : Result (Unit {0}) Halt) (script : Script) (packets : List Packet) (fault : Option CaptureFault)
-    → FaultsBy (fault_met script packets fault) result → StopsAs (Some (Carried script packets fault)) (ending_of result)
-carried_damage (Ok x) script packets fault faults = tt
-carried_damage (Err (halts.Damage found)) script packets fault faults = faults
-carried_damage (Err halts.Output) script packets fault faults = tt
-carried_damage (Err halts.Device) script packets fault faults = tt
-
-pub carried_text : (result : Result (Unit {0}) Halt) (script : Script) (packets : List Packet) (fault : Option CaptureFault) (hash_key : List ℕ)
-    (cells : Option Contents) (out now : Option (List ℕ)) → IfSome cells (λ _. SendsBy out (text_of hash_key script packets fault) result now)
-    → SendsText hash_key (Some (Carried script packets fault)) cells out (status_in (ending_of result)) now
-carried_text (Ok x) script packets fault hash_key cells out now sends = sends
-carried_text (Err (halts.Damage found)) script packets fault hash_key cells out now sends = sends
-carried_text (Err halts.Output) script packets fault hash_key cells out now sends = sends
-carried_text (Err halts.Device) script packets fault hash_key cells out now sends = sends
-
-pub carried_calls : (result : Result (Unit {0}) Halt) (script : Script) (packets : List Packet) (fault : Option CaptureFault) (hash_key : List ℕ)
-    (before shaped after : Option (List Call)) → Told (λ old now. now ≡ []) before shaped
-    → CallsBy shaped (calls_all hash_key script packets fault) result after
-    → MakesCalls hash_key (Some (Carried script packets fault)) before (status_in (ending_of result)) after
-carried_calls (Ok x) script packets fault hash_key before shaped after none calls = shaped_calls before shaped after (calls_all hash_key script packets fault) none calls
-carried_calls (Err (halts.Damage found)) script packets fault hash_key before shaped after none calls =
-    shaped_calls before shaped after (calls_all hash_key script packets fault) none calls
-carried_calls (Err halts.Output) script packets fault hash_key before shaped after none calls =
-    shaped_front before shaped after (calls_all hash_key script packets fault) none calls
-carried_calls (Err halts.Device) script packets fault hash_key before shaped after none calls =
-    shaped_front before shaped after (calls_all hash_key script packets fault) none calls
-
-pub carried_registers : (result : Result (Unit {0}) Halt) (script : Script) (packets : List Packet) (fault : Option CaptureFault) (hash_key : List ℕ) (cells : Option Contents)
-    → LaysBy hash_key script.job (counted script packets fault) result cells → LaysOut hash_key (Some (Carried script packets fault)) (status_in (ending_of result)) cells
-carried_registers (Ok x) script packets fault hash_key cells lays = lays
-carried_registers (Err (halts.Damage found)) script packets fault hash_key cells lays = lays
-carried_registers (Err halts.Output) script packets fault hash_key cells lays = tt
-carried_registers (Err halts.Device) script packets fault hash_key cells lays = tt
-
-pub carry_stops : (result : Result (Unit {0}) Halt) → IfErr (ending_of result) IsCarryStop
-carry_stops (Ok x) = tt
-carry_stops (Err (halts.Damage found)) = tt
-carry_stops (Err halts.Output) = tt
-carry_stops (Err halts.Device) = tt
-
-pub cause_output : (result : Result (Unit {0}) Halt) (ob on rb rn : ℕ) (fault : Option CaptureFault) → IfErr result (HaltHasCause ob on rb rn fault)
-    → status_in (ending_of result) ≡ statuses.OutputFault → Rose ob on
-cause_output (Ok x) ob on rb rn fault cause is = cc
-cause_output (Err (halts.Damage found)) ob on rb rn fault cause is = cc
-cause_output (Err halts.Output) ob on rb rn fault cause is = cause
-cause_output (Err halts.Device) ob on rb rn fault cause is = cc
-
-pub cause_device : (result : Result (Unit {0}) Halt) (ob on rb rn : ℕ) (fault : Option CaptureFault) → IfErr result (HaltHasCause ob on rb rn fault)
-    → status_in (ending_of result) ≡ statuses.DeviceFault → Rose rb rn
-cause_device (Ok x) ob on rb rn fault cause is = cc
-cause_device (Err (halts.Damage found)) ob on rb rn fault cause is = cc
-cause_device (Err halts.Output) ob on rb rn fault cause is = cc
-cause_device (Err halts.Device) ob on rb rn fault cause is = cause
+pub message_sent : {E : Type 0} (result : Result (Unit {0}) E) (message : List ℕ) (faults now : ℕ) (before after : Option (List ℕ))
+    → Faults.HasCause faults now result → OnOk result (Grows before message after) → OnErr result (CameInPart before message after)
+    → SendsMessage message faults now before after
+message_sent (Ok x) message faults now before after cause sent part = record {
+  front = record { rest = []; so_far = record { front = message; grows = sent; whole = append-nil message } };
+  whole = λ honest. sent;
+}
+message_sent (Err e) message faults now before after cause sent part = record {
+  front = front_of_part before after message part;
+  whole = λ honest. absurd (honest cause.failed);
+}

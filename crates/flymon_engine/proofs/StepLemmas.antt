@@ -1,216 +1,203 @@
--- One command of a run, over plain lists.
-use Rattle.std.proofs.Common.{◌≡◌, ℕ, ◌+◌, ◌<◌, ◌≤◌, Bool, true, false, List, [], ◌∷◌, ◌++◌, length, take, drop, get_or, Option, None, Some, IfSome, Err, refl, sym, ap, ◌∙◌, subst, arith, add-one, drop-cons}
-use Rattle.std.specs.Prelude.{if◌then◌else◌}
-use Rattle.capture_read.specs.declared.records.CaptureFault.{CaptureFault}
-use Rattle.std.proofs.lemmas.List.{drop-drop}
-use Rattle.std.proofs.Math.Seq.{take-add}
-use Rattle.outside.specs.Told.{Grows}
-use Rattle.outside.specs.Sent.{CameSoFar, CameInFront}
-use Rattle.outside.proofs.SentLemmas.{none_came, more_came, all_came, part_came}
-use Rattle.outside.proofs.ToldLemmas.{stays_same}
+-- What a command comes to.
+use Rattle.std.proofs.Common.{◌≡◌, ◌≤◌, ◌<◌, ℕ, true, false, List, [], ◌∷◌, ◌++◌, length, Option, None, Some, Result, Ok, Err, Bool, OnOk, OnErr, ◌+◌, take, drop, get_or, refl, sym, ap, ◌∙◌, subst, arith}
+use Rattle.std.specs.Prelude.{nat_lt, is_some, ◌&&◌, not}
+use Rattle.std.proofs.lemmas.Bool.Decides.{nat_tests}
+use Rattle.std.proofs.lemmas.List.{length-map, get_or-map, take_more, drop_more, take_all, take-append-drop}
+use Rattle.outside.specs.Told.{Told, Stays, Grows}
+use Rattle.outside.specs.Sent.{CameInPart}
+use Rattle.outside.proofs.ToldLemmas.{grows_then, grows_stays}
+use Rattle.fm_io.specs.Slots.{Cursor}
 use Rattle.reg_file.specs.Registers.{Contents}
 use Rattle.reg_file.specs.declared.traits.Call.{Call}
-use Rattle.pkt_headers.specs.declared.packets.Packet.{Packet}
-use Rattle.std.proofs.lemmas.List.Elements.{filter-append}
-use Rattle.task_filters.specs.Filters.{passes}
-use Rattle.task_lang.specs.declared.commands.Command.{Command}
-use Rattle.flymon_engine.specs.Script.{Job}
-use Rattle.flymon_engine.specs.Carrying.{IsToldBefore, HaltHasCause, MeetsAs, SendsBy, CallsBy, LaysBy, FaultsBy}
+use Rattle.flymon_engine.specs.declared.work.Work.{Work}
+use Rattle.flymon_engine.specs.declared.work.Work.TheVariants.{Take, Change, Ask}
 use Rattle.flymon_engine.specs.declared.stop.Halt.{Halt}
-use Rattle.flymon_engine.specs.declared.stop.Halt.TheVariants as halts
-use Rattle.flymon_engine.specs.Cells.{AreCells}
-use Rattle.flymon_engine.specs.Steps.{State, start, state_at, matched, asked_by, taken_by, after, meets, written, calls_of, text_from, calls_from, state_from, fault_from}
-use Rattle.flymon_engine.proofs.PassLemmas.{take_length}
+use Rattle.flymon_engine.specs.declared.stop.Halt.TheVariants.{Output, Device}
+use Rattle.task_lang.specs.declared.commands.Command.{Command}
+use Rattle.flymon_engine.specs.Works.{work_of, works_of}
+use Rattle.flymon_engine.specs.Arrivals.{Left}
+use Rattle.flymon_engine.specs.Boards.{Board, Move, Rules}
+use Rattle.flymon_engine.specs.Moves.{Moves}
+use Rattle.flymon_engine.specs.Runs.{Run, moved, sends, passed, step, done_by, lines_of, meets, carried, unmet, asked_by, taken_by}
+use Rattle.flymon_engine.specs.Stops.{HaltsBy, IsServed, SpoilsTo, Stopped, Finished, Ends}
+use Rattle.flymon_engine.specs.Worlds.{Before, Shows, IsAt, Advances, Halts, GoesOn, AdvancesTo, Goes, TookAll, Reaches, EndsAt}
 
--- what a command takes is a front of what is left
-taken_front : (job : Job) (packets : List Packet) (taken : ℕ) (command : Command)
-    → taken_by (state_at job packets taken) command ≡ take (length (taken_by (state_at job packets taken) command)) (drop taken packets)
-taken_front job packets taken command = sym (take_length (asked_by command) (drop taken packets))
+-- a command that asks for no packets meets no damage
+pub asks_none : (b : Bool) (n : ℕ) → (b && nat_lt n 0) ≡ false
+asks_none true n = grind (arith, nat_tests)
+asks_none false n = refl
 
-after_is : (job : Job) (packets : List Packet) (taken : ℕ) (passed : List Packet) → passed ≡ take (length passed) (drop taken packets)
-    → (let s : State = record { counted_packets = matched job (take taken packets) ++ matched job passed; left = drop (length passed) (drop taken packets) } in s)
-    ≡ state_at job packets (taken + length passed)
-after_is job packets taken passed front =
-    let counted_packets : matched job (take taken packets) ++ matched job passed ≡ matched job (take (taken + length passed) packets) =
-    sym (filter-append (λ (packet : Packet). passes job.task.filter packet.vec) (take taken packets) passed)
-    ∙ ap (matched job) (ap (λ l. take taken packets ++ l) front ∙ sym (take-add taken (length passed) packets)) in
-    let left : drop (length passed) (drop taken packets) ≡ drop (taken + length passed) packets = drop-drop (length passed) taken packets in
-    rw (counted_packets, left) refl
+pub change_unmet : (run : Run) (change : _) → meets run (Change change) ≡ false
+change_unmet run change = asks_none (is_some run.left.fault) (length run.left.list)
 
-pub after_step : (job : Job) (packets : List Packet) (taken next : ℕ) (command : Command)
-    → next ≡ taken + length (taken_by (state_at job packets taken) command) → after job (state_at job packets taken) command ≡ state_at job packets next
-after_step job packets taken next command e =
-    after_is job packets taken (taken_by (state_at job packets taken) command) (taken_front job packets taken command) ∙ ap (state_at job packets) (sym e)
+pub ask_unmet : (run : Run) (request : _) → meets run (Ask request) ≡ false
+ask_unmet run request = asks_none (is_some run.left.fault) (length run.left.list)
 
-rest_is : (commands : List Command) (index : ℕ) (command : Command) → index < length commands → command ≡ get_or commands index command
-    → drop index commands ≡ command ∷ drop (index + 1) commands
-rest_is commands index command inside is =
-    drop-cons commands index command inside ∙ rw (← is, ← add-one) refl
+-- a piece more was sent
+pub shows_more : (stands : Board → Contents → Type 0) (before : Before) (calls : Option (List Call)) (s0 s1 : Option (List ℕ)) (cells : Contents) (run : Run) (piece : List ℕ)
+    → Grows s0 piece s1 → Shows stands before calls s0 cells run → Shows stands before calls s1 cells (sends run piece)
+shows_more stands before calls s0 s1 cells run piece grew shows =
+    record { board = shows.board; made = shows.made; wrote = grows_then before.sent s0 s1 run.text piece shows.wrote grew }
 
--- the first command is what it writes, and what comes behind it unless it met the damage
-pub text_step : (hash_key : List ℕ) (job : Job) (fault : Option CaptureFault) (packets : List Packet) (taken next : ℕ) (commands : List Command) (index : ℕ) (command : Command)
-    → index < length commands → command ≡ get_or commands index command → next ≡ taken + length (taken_by (state_at job packets taken) command)
-    → text_from hash_key job fault (state_at job packets taken) (drop index commands)
-    ≡ written hash_key job fault (state_at job packets taken) command
-    ++ (if meets (state_at job packets taken) fault command then [] else text_from hash_key job fault (state_at job packets next) (drop (index + 1) commands))
-text_step hash_key job fault packets taken next commands index command inside is e =
-    rw (rest_is commands index command inside is)
-    (ap (λ s. written hash_key job fault (state_at job packets taken) command
-    ++ (if meets (state_at job packets taken) fault command then [] else text_from hash_key job fault s (drop (index + 1) commands)))
-    (after_step job packets taken next command e))
+pub shows_same : (stands : Board → Contents → Type 0) (before : Before) (calls : Option (List Call)) (s0 s1 : Option (List ℕ)) (cells : Contents) (run : Run)
+    → Stays s0 s1 → Shows stands before calls s0 cells run → Shows stands before calls s1 cells run
+shows_same stands before calls s0 s1 cells run same shows =
+    record { board = shows.board; made = shows.made; wrote = grows_stays before.sent s0 s1 run.text shows.wrote same }
 
-pub calls_step : (hash_key : List ℕ) (job : Job) (fault : Option CaptureFault) (packets : List Packet) (taken next : ℕ) (commands : List Command) (index : ℕ) (command : Command)
-    → index < length commands → command ≡ get_or commands index command → next ≡ taken + length (taken_by (state_at job packets taken) command)
-    → calls_from hash_key job fault (state_at job packets taken) (drop index commands)
-    ≡ calls_of hash_key job (state_at job packets taken) command
-    ++ (if meets (state_at job packets taken) fault command then [] else calls_from hash_key job fault (state_at job packets next) (drop (index + 1) commands))
-calls_step hash_key job fault packets taken next commands index command inside is e =
-    rw (rest_is commands index command inside is)
-    (ap (λ s. calls_of hash_key job (state_at job packets taken) command
-    ++ (if meets (state_at job packets taken) fault command then [] else calls_from hash_key job fault s (drop (index + 1) commands)))
-    (after_step job packets taken next command e))
+-- the machine moved
+pub shows_moved : (stands0 stands1 : Board → Contents → Type 0) (before : Before) (calls0 calls1 : Option (List Call)) (sent : Option (List ℕ)) (c d : Contents) (run : Run) (move : Move)
+    → Moves stands1 move calls0 calls1 d → Shows stands0 before calls0 sent c run → Shows stands1 before calls1 sent d (moved run move)
+shows_moved stands0 stands1 before calls0 calls1 sent c d run move moves shows =
+    record { board = moves.stood; made = grows_then before.calls calls0 calls1 run.calls move.calls shows.made moves.made; wrote = shows.wrote }
 
-state_step : (job : Job) (fault : Option CaptureFault) (packets : List Packet) (taken next : ℕ) (commands : List Command) (index : ℕ) (command : Command)
-    → index < length commands → command ≡ get_or commands index command → next ≡ taken + length (taken_by (state_at job packets taken) command)
-    → state_from job fault (state_at job packets taken) (drop index commands)
-    ≡ (if meets (state_at job packets taken) fault command then state_at job packets next else state_from job fault (state_at job packets next) (drop (index + 1) commands))
-state_step job fault packets taken next commands index command inside is e =
-    rw (rest_is commands index command inside is)
-    (ap (λ s. if meets (state_at job packets taken) fault command then s else state_from job fault s (drop (index + 1) commands)) (after_step job packets taken next command e))
+-- a command that was carried out, and whose lines were sent, or a part of them
+pub goes_by_line : {T : Type 0} (rules : Rules) (stands : Board → Contents → Type 0) (before : Before) (calls : Option (List Call)) (s0 s1 : Option (List ℕ))
+    (run : Run) (command : Work) (line : List ℕ) (result : Result T Halt) (cells : Contents)
+    → meets run command ≡ false → lines_of rules run command ≡ line
+    → OnOk result (Grows s0 line s1) → OnErr result (CameInPart s0 line s1) → OnErr result (result ≡ Err Output)
+    → Shows stands before calls s0 cells (done_by rules run command)
+    → (at : ℕ) → GoesOn rules stands before calls s1 result run command at cells
+unfolding step
+goes_by_line rules stands before calls s0 s1 run command line (Ok x) cells unmet is grew part output shows at =
+    record {
+      unmet = unmet;
+      shows = rw is (shows_more stands before calls s0 s1 cells (done_by rules run command) line grew shows);
+    }
+goes_by_line rules stands before calls s0 s1 run command line (Err halt) cells unmet is grew part output shows at =
+    let halted : halt ≡ Output = cc in
+    let end = sends (done_by rules run command) part.so_far.front in
+    subst (λ (h : Halt). Halts rules stands before calls s1 h run command at cells) (sym halted) (record {
+      end = end;
+      halts = record {
+        front = part.so_far.front;
+        unmet = unmet;
+        cuts = record { rest = part.rest; some = part.left; whole = part.so_far.whole ∙ sym is };
+        is = refl;
+      };
+      shows = shows_more stands before calls s0 s1 cells (done_by rules run command) part.so_far.front part.so_far.grows shows;
+    })
 
-fault_step : (job : Job) (fault : Option CaptureFault) (packets : List Packet) (taken next : ℕ) (commands : List Command) (index : ℕ) (command : Command)
-    → index < length commands → command ≡ get_or commands index command → next ≡ taken + length (taken_by (state_at job packets taken) command)
-    → fault_from job fault (state_at job packets taken) (drop index commands)
-    ≡ (if meets (state_at job packets taken) fault command then fault else fault_from job fault (state_at job packets next) (drop (index + 1) commands))
-fault_step job fault packets taken next commands index command inside is e =
-    rw (rest_is commands index command inside is)
-    (ap (λ s. if meets (state_at job packets taken) fault command then fault else fault_from job fault s (drop (index + 1) commands)) (after_step job packets taken next command e))
+-- a command that the device refused
+pub refused_by_device : (rules : Rules) (stands : Board → Contents → Type 0) (before : Before) (calls : Option (List Call)) (s0 s1 : Option (List ℕ))
+    (run here : Run) (command : Work) (line : List ℕ) (cells : Contents)
+    → IsServed rules run command → SpoilsTo rules run command here → lines_of rules run command ≡ line
+    → CameInPart s0 line s1 → Shows stands before calls s0 cells here
+    → (at : ℕ) → Halts rules stands before calls s1 Device run command at cells
+refused_by_device rules stands before calls s0 s1 run here command line cells served spoiled is part shows at = record {
+  end = sends here part.so_far.front;
+  halts = record {
+    here = here;
+    front = part.so_far.front;
+    served = served;
+    spoiled = spoiled;
+    cuts = record { rest = part.rest; some = part.left; whole = part.so_far.whole ∙ sym is };
+    is = refl;
+  };
+  shows = shows_more stands before calls s0 s1 cells here part.so_far.front part.so_far.grows shows;
+}
 
--- behind a command that did not meet the damage
-pub text_on : (text piece more : List ℕ) (met : Bool) → met ≡ false → text ≡ piece ++ (if met then [] else more) → text ≡ piece ++ more
-text_on text piece more true misses is = cc
-text_on text piece more false misses is = is
+-- a command that leaves the capture where it is
+pub goes_at : {T : Type 0} (rules : Rules) (stands0 stands1 : Board → Contents → Type 0) (comes : Left → Cursor → Type 0) (before : Before) (calls0 calls1 : Option (List Call)) (s0 s1 : Option (List ℕ))
+    (run : Run) (command : Work) (result : Result T Halt) (tape : Cursor) (c d : Contents)
+    → (step rules run command).left ≡ run.left
+    → (Shows stands0 before calls0 s0 c run → (at : ℕ) → GoesOn rules stands1 before calls1 s1 result run command at d)
+    → IsAt stands0 comes before calls0 s0 tape c run → Goes rules stands1 comes before calls1 s1 result run command tape d
+goes_at rules stands0 stands1 comes before calls0 calls1 s0 s1 run command (Ok x) tape c d same goes is =
+    record { advances = goes is.shows tape.at; left = subst (λ (l : Left). comes l tape) (sym same) is.left }
+goes_at rules stands0 stands1 comes before calls0 calls1 s0 s1 run command (Err halt) tape c d same goes is = goes is.shows tape.at
 
-pub calls_on_more : (calls piece more : List Call) (met : Bool) → met ≡ false → calls ≡ piece ++ (if met then [] else more) → calls ≡ piece ++ more
-calls_on_more calls piece more true misses is = cc
-calls_on_more calls piece more false misses is = is
+pub change_stays : (rules : Rules) (run : Run) (change : _) → (step rules run (Change change)).left ≡ run.left
+unfolding step
+change_stays rules run change = refl
 
-pub state_on : (job : Job) (fault : Option CaptureFault) (packets : List Packet) (taken next : ℕ) (commands : List Command) (index : ℕ) (command : Command)
-    → index < length commands → command ≡ get_or commands index command → next ≡ taken + length (taken_by (state_at job packets taken) command)
-    → meets (state_at job packets taken) fault command ≡ false
-    → state_from job fault (state_at job packets next) (drop (index + 1) commands) ≡ state_from job fault (state_at job packets taken) (drop index commands)
-state_on job fault packets taken next commands index command inside is e misses =
-    sym (state_step job fault packets taken next commands index command inside is e
-    ∙ ap (λ b. if b then state_at job packets next else state_from job fault (state_at job packets next) (drop (index + 1) commands)) misses)
+pub ask_stays : (rules : Rules) (run : Run) (request : _) → (step rules run (Ask request)).left ≡ run.left
+unfolding step
+ask_stays rules run request = refl
 
-pub fault_on : (job : Job) (fault : Option CaptureFault) (packets : List Packet) (taken next : ℕ) (commands : List Command) (index : ℕ) (command : Command)
-    → index < length commands → command ≡ get_or commands index command → next ≡ taken + length (taken_by (state_at job packets taken) command)
-    → meets (state_at job packets taken) fault command ≡ false
-    → fault_from job fault (state_at job packets next) (drop (index + 1) commands) ≡ fault_from job fault (state_at job packets taken) (drop index commands)
-fault_on job fault packets taken next commands index command inside is e misses =
-    sym (fault_step job fault packets taken next commands index command inside is e
-    ∙ ap (λ b. if b then fault else fault_from job fault (state_at job packets next) (drop (index + 1) commands)) misses)
+-- packets were taken, and their number sent
+pub goes_took : {T : Type 0} (rules : Rules) (stands : Board → Contents → Type 0) (comes : Left → Cursor → Type 0) (before : Before) (calls : Option (List Call)) (s0 s1 : Option (List ℕ))
+    (run : Run) (command : Work) (count : ℕ) (line : List ℕ) (result : Result T Halt) (tape : Cursor) (cells : Contents)
+    → done_by rules run command ≡ passed rules run (taken_by run command) → lines_of rules run command ≡ line
+    → OnOk result (Grows s0 line s1) → OnErr result (CameInPart s0 line s1) → OnErr result (result ≡ Err Output)
+    → TookAll rules stands comes before calls s0 count run command tape cells → Goes rules stands comes before calls s1 result run command tape cells
+unfolding step
+goes_took {T} rules stands comes before calls s0 s1 run command count line result tape cells does is grew part output took =
+    let at : done_by rules run command ≡ passed rules run count = does ∙ ap (λ n. passed rules run n) (sym took.took) in
+    let shows : Shows stands before calls s0 cells (done_by rules run command) = subst (λ r. Shows stands before calls s0 cells r) (sym at) took.now.shows in
+    let goes = goes_by_line rules stands before calls s0 s1 run command line result cells took.unmet is grew part output shows in
+    let left : comes (done_by rules run command).left tape = subst (λ (r : Run). comes r.left tape) (sym at) took.now.left in
+    goes_with result left goes
+  where
+    goes_with : (result : Result T Halt) → comes (done_by rules run command).left tape
+        → ((at : ℕ) → GoesOn rules stands before calls s1 result run command at cells) → Goes rules stands comes before calls s1 result run command tape cells
+    goes_with (Ok x) left goes = record { advances = goes tape.at; left = left }
+    goes_with (Err halt) left goes = goes tape.at
 
--- at the damage
-pub state_met : (job : Job) (fault : Option CaptureFault) (packets : List Packet) (taken next : ℕ) (commands : List Command) (index : ℕ) (command : Command)
-    → index < length commands → command ≡ get_or commands index command → next ≡ taken + length (taken_by (state_at job packets taken) command)
-    → meets (state_at job packets taken) fault command ≡ true → state_from job fault (state_at job packets taken) (drop index commands) ≡ state_at job packets next
-state_met job fault packets taken next commands index command inside is e does =
-    state_step job fault packets taken next commands index command inside is e
-    ∙ ap (λ b. if b then state_at job packets next else state_from job fault (state_at job packets next) (drop (index + 1) commands)) does
+-- the works of the commands so far, and of one more
+pub works_next : (commands : List Command) (index : ℕ) (command : Command) → index < length commands → command ≡ get_or commands index command
+    → take (index + 1) (works_of commands) ≡ take index (works_of commands) ++ work_of command ∷ []
+works_next commands index command inside is =
+    let within : index < length (works_of commands) = omega (arith, length-map commands work_of) in
+    let same : get_or (works_of commands) index (work_of command) ≡ work_of command = get_or-map work_of commands index command (work_of command) inside ∙ ap work_of (sym is) in
+    take_more (works_of commands) index (work_of command) within ∙ ap (λ w. take index (works_of commands) ++ w ∷ []) same
 
-pub fault_met_here : (job : Job) (fault : Option CaptureFault) (packets : List Packet) (taken next : ℕ) (commands : List Command) (index : ℕ) (command : Command)
-    → index < length commands → command ≡ get_or commands index command → next ≡ taken + length (taken_by (state_at job packets taken) command)
-    → meets (state_at job packets taken) fault command ≡ true → fault_from job fault (state_at job packets taken) (drop index commands) ≡ fault
-fault_met_here job fault packets taken next commands index command inside is e does =
-    fault_step job fault packets taken next commands index command inside is e
-    ∙ ap (λ b. if b then fault else fault_from job fault (state_at job packets next) (drop (index + 1) commands)) does
+pub works_whole : (commands : List Command) (index : ℕ) (command : Command) → index < length commands → command ≡ get_or commands index command
+    → take index (works_of commands) ++ work_of command ∷ drop (index + 1) (works_of commands) ≡ works_of commands
+works_whole commands index command inside is =
+    let within : index < length (works_of commands) = omega (arith, length-map commands work_of) in
+    let same : get_or (works_of commands) index (work_of command) ≡ work_of command = get_or-map work_of commands index command (work_of command) inside ∙ ap work_of (sym is) in
+    ap (λ w. take index (works_of commands) ++ w ∷ drop (index + 1) (works_of commands)) (sym same)
+    ∙ (ap (λ xs. take index (works_of commands) ++ xs) (sym (drop_more (works_of commands) index (work_of command) within)) ∙ take-append-drop index (works_of commands))
 
-nothing_behind : {A : Type 0} (more : List A) (met : Bool) → met ≡ true → (if met then [] else more) ≡ []
-nothing_behind more true does = refl
-nothing_behind more false does = cc
+pub works_all : (commands : List Command) (index : ℕ) → length commands ≤ index → take index (works_of commands) ≡ works_of commands
+works_all commands index h = take_all index (works_of commands) (omega (arith, length-map commands work_of))
 
--- the command that a fault stopped made its calls
-pub calls_front : (before mid now : Option (List Call)) (all calls piece rest : List Call) → calls ≡ piece ++ rest
-    → CameSoFar before all calls mid → Grows mid piece now → CameInFront before all now
-calls_front before mid now all calls piece rest is far grows =
-    record { rest = rest; so_far = more_came before mid now all piece rest (subst (λ l. CameSoFar before all l mid) is far) grows }
+-- the commands so far, and one more
+carried_more : (rules : Rules) (run : Run) (done : List Work) (command : Work)
+    → carried rules run (done ++ command ∷ []) ≡ step rules (carried rules run done) command
+unfolding carried
+carried_more rules run [] command = refl
+carried_more rules run (first ∷ done) command = carried_more rules (step rules run first) done command
 
--- how a command that stopped leaves the run
-pub sent_stop : (halt : Halt) (a b : Option Contents) (before mid now : Option (List ℕ)) (all text piece more : List ℕ) (met : Bool) → IsToldBefore a b
-    → text ≡ piece ++ (if met then [] else more) → MeetsAs {T = ℕ} met (Err halt) → IfSome a (λ _. CameSoFar before all text mid)
-    → IfSome b (λ _. SendsBy {T = ℕ} mid piece (Err halt) now) → IfSome b (λ _. SendsBy {T = Unit {0}} before all (Err halt) now)
-sent_stop stop a None before mid now all text piece more met told is meets_as far sends = tt
-sent_stop stop None (Some y) before mid now all text piece more met told is meets_as far sends = absurd told
-sent_stop (halts.Damage fault) (Some x) (Some y) before mid now all text piece more met told is meets_as far sends =
-    let last : text ≡ piece ++ [] = is ∙ ap (λ rest. piece ++ rest) (nothing_behind more met meets_as) in
-    all_came before now all (more_came before mid now all piece [] (subst (λ t. CameSoFar before all t mid) last far) sends)
-sent_stop halts.Output (Some x) (Some y) before mid now all text piece more met told is meets_as far sends =
-    part_came before mid now all piece (if met then [] else more) (subst (λ t. CameSoFar before all t mid) is far) sends
-sent_stop halts.Device (Some x) (Some y) before mid now all text piece more met told is meets_as far sends =
-    part_came before mid now all piece (if met then [] else more) (subst (λ t. CameSoFar before all t mid) is far) sends
+unmet_more : (rules : Rules) (run : Run) (done : List Work) (command : Work)
+    → unmet rules run done ≡ true → meets (carried rules run done) command ≡ false → unmet rules run (done ++ command ∷ []) ≡ true
+unfolding carried unmet
+unmet_more rules run [] command all one = ap (λ b. not b && true) one
+unmet_more rules run (first ∷ done) command all one = both (meets run first) (unmet rules (step rules run first) done) (unmet rules (step rules run first) (done ++ command ∷ [])) all
+    (λ rest. unmet_more rules (step rules run first) done command rest one)
+  where
+    both : (b u v : Bool) → (not b && u) ≡ true → (u ≡ true → v ≡ true) → (not b && v) ≡ true
+    both true u v e f = e
+    both false u v e f = f e
 
-pub calls_stop : (halt : Halt) (before mid now : Option (List Call)) (all calls piece more : List Call) (met : Bool)
-    → calls ≡ piece ++ (if met then [] else more) → MeetsAs {T = ℕ} met (Err halt) → CameSoFar before all calls mid → Grows mid piece now
-    → CallsBy {T = Unit {0}} before all (Err halt) now
-calls_stop (halts.Damage fault) before mid now all calls piece more met is meets_as far grows =
-    let last : calls ≡ piece ++ [] = is ∙ ap (λ rest. piece ++ rest) (nothing_behind more met meets_as) in
-    all_came before now all (more_came before mid now all piece [] (subst (λ l. CameSoFar before all l mid) last far) grows)
-calls_stop halts.Output before mid now all calls piece more met is meets_as far grows = calls_front before mid now all calls piece (if met then [] else more) is far grows
-calls_stop halts.Device before mid now all calls piece more met is meets_as far grows = calls_front before mid now all calls piece (if met then [] else more) is far grows
+pub reaches_none : (rules : Rules) (stands : Board → Contents → Type 0) (comes : Left → Cursor → Type 0) (before : Before) (calls : Option (List Call)) (sent : Option (List ℕ))
+    (start : Run) (tape : Cursor) (cells : Contents) → IsAt stands comes before calls sent tape cells start → Reaches rules stands comes before calls sent start [] tape cells
+unfolding carried unmet
+reaches_none rules stands comes before calls sent start tape cells is = record { unmet = refl; now = is }
 
-pub lays_stop : (halt : Halt) (cells : Option Contents) (hash_key : List ℕ) (job : Job) (packets : List Packet) (next : ℕ) (met : Bool) (here last : State)
-    → MeetsAs {T = ℕ} met (Err halt) → (met ≡ true → here ≡ state_at job packets next) → here ≡ last
-    → LaysBy {T = ℕ} hash_key job (matched job (take next packets)) (Err halt) cells → LaysBy {T = Unit {0}} hash_key job last.counted_packets (Err halt) cells
-lays_stop (halts.Damage fault) cells hash_key job packets next met here last meets_as place same lays =
-    subst (λ (s : State). IfSome cells (AreCells hash_key job s.counted_packets)) (sym (place meets_as) ∙ same) lays
-lays_stop halts.Output cells hash_key job packets next met here last meets_as place same lays = tt
-lays_stop halts.Device cells hash_key job packets next met here last meets_as place same lays = tt
+pub reaches_more : (rules : Rules) (stands : Board → Contents → Type 0) (comes : Left → Cursor → Type 0) (before : Before) (calls : Option (List Call)) (sent : Option (List ℕ))
+    (start : Run) (done next : List Work) (command : Work) (tape : Cursor) (cells : Contents) → next ≡ done ++ command ∷ [] → unmet rules start done ≡ true
+    → AdvancesTo rules stands comes before calls sent (carried rules start done) command tape cells → Reaches rules stands comes before calls sent start next tape cells
+reaches_more rules stands comes before calls sent start done next command tape cells is all to = rw is (record {
+  unmet = unmet_more rules start done command all to.advances.unmet;
+  now = rw (carried_more rules start done command) (record { shows = to.advances.shows; left = to.left });
+})
 
-pub faults_stop : (halt : Halt) (ob on rb rn : ℕ) (fault here last : Option CaptureFault) (met : Bool)
-    → MeetsAs {T = ℕ} met (Err halt) → (met ≡ true → here ≡ fault) → here ≡ last → HaltHasCause ob on rb rn fault halt → FaultsBy {T = Unit {0}} last (Err halt)
-faults_stop (halts.Damage found) ob on rb rn fault here last met meets_as place same cause = sym same ∙ (place meets_as ∙ cause)
-faults_stop halts.Output ob on rb rn fault here last met meets_as place same cause = tt
-faults_stop halts.Device ob on rb rn fault here last met meets_as place same cause = tt
+pub stops_at : (rules : Rules) (stands : Board → Contents → Type 0) (before : Before) (calls : Option (List Call)) (sent : Option (List ℕ))
+    (start : Run) (done rest commands : List Work) (command : Work) (halt : Halt) (tape : Cursor) (cells : Contents) → done ++ command ∷ rest ≡ commands → unmet rules start done ≡ true
+    → Halts rules stands before calls sent halt (carried rules start done) command tape.at cells
+    → EndsAt {T = Unit {0}} rules stands before calls sent (Err halt) start commands tape cells
+stops_at rules stands before calls sent start done rest commands command halt tape cells whole all halts = record {
+  end = halts.end;
+  ends = record { done = done; command = command; rest = rest; whole = whole; unmet = all; halts = halts.halts };
+  shows = halts.shows;
+}
 
-pub sent_more : (a b : Option Contents) (before mid now : Option (List ℕ)) (all text piece rest : List ℕ) → IsToldBefore a b → text ≡ piece ++ rest
-    → IfSome a (λ _. CameSoFar before all text mid) → IfSome b (λ _. Grows mid piece now) → IfSome b (λ _. CameSoFar before all rest now)
-sent_more a None before mid now all text piece rest told is far grows = tt
-sent_more None (Some y) before mid now all text piece rest told is far grows = absurd told
-sent_more (Some x) (Some y) before mid now all text piece rest told is far grows =
-    more_came before mid now all piece rest (subst (λ t. CameSoFar before all t mid) is far) grows
-
-pub told_same : (a : Option Contents) → IsToldBefore a a
-told_same None = tt
-told_same (Some x) = tt
-
-pub sent_none : (a : Option Contents) (out : Option (List ℕ)) (text : List ℕ) → IfSome a (λ _. CameSoFar out text text out)
-sent_none None out text = tt
-sent_none (Some x) out text = none_came out out text (stays_same out)
-
-pub sent_all : (a : Option Contents) (before now : Option (List ℕ)) (all rest : List ℕ) → rest ≡ [] → IfSome a (λ _. CameSoFar before all rest now) → IfSome a (λ _. Grows before all now)
-sent_all None before now all rest none far = tt
-sent_all (Some x) before now all rest none far = all_came before now all (subst (λ l. CameSoFar before all l now) none far)
-
-pub calls_all_came : (before now : Option (List Call)) (all rest : List Call) → rest ≡ [] → CameSoFar before all rest now → Grows before all now
-calls_all_came before now all rest none far = all_came before now all (subst (λ l. CameSoFar before all l now) none far)
-
-pub calls_more : (before mid now : Option (List Call)) (all calls piece rest : List Call) → calls ≡ piece ++ rest
-    → CameSoFar before all calls mid → Grows mid piece now → CameSoFar before all rest now
-calls_more before mid now all calls piece rest is far grows = more_came before mid now all piece rest (subst (λ l. CameSoFar before all l mid) is far) grows
-
-pub cells_last : (a : Option Contents) (hash_key : List ℕ) (job : Job) (fault : Option CaptureFault) (packets : List Packet) (taken : ℕ) (commands behind : List Command) → behind ≡ []
-    → state_from job fault (state_at job packets taken) behind ≡ state_from job fault (start packets) commands
-    → IfSome a (AreCells hash_key job (matched job (take taken packets))) → IfSome a (AreCells hash_key job (state_from job fault (start packets) commands).counted_packets)
-cells_last None hash_key job fault packets taken commands behind none last cells = tt
-cells_last (Some x) hash_key job fault packets taken commands behind none last cells =
-    let same : state_at job packets taken ≡ state_from job fault (start packets) commands =
-    ap (state_from job fault (state_at job packets taken)) (sym none) ∙ last in
-    subst (λ (s : State). AreCells hash_key job s.counted_packets x) same cells
-
--- a fault that came later has its cause since before
-pub cause_later : (ob om on rb rm rn : ℕ) (fault : Option CaptureFault) (halt : Halt) → ob ≤ om → rb ≤ rm
-    → HaltHasCause om on rm rn fault halt → HaltHasCause ob on rb rn fault halt
-cause_later ob om on rb rm rn fault halts.Output out regs cause = omega arith
-cause_later ob om on rb rm rn fault halts.Device out regs cause = omega arith
-cause_later ob om on rb rm rn fault (halts.Damage met) out regs cause = cause
+pub finishes : (rules : Rules) (stands : Board → Contents → Type 0) (comes : Left → Cursor → Type 0) (before : Before) (calls : Option (List Call)) (sent : Option (List ℕ))
+    (start : Run) (done commands : List Work) (tape : Cursor) (cells : Contents) → done ≡ commands
+    → Reaches rules stands comes before calls sent start done tape cells → EndsAt {T = Unit {0}} rules stands before calls sent (Ok tt) start commands tape cells
+finishes rules stands comes before calls sent start done commands tape cells is reaches = record {
+  end = carried rules start done;
+  ends = record { unmet = ap (unmet rules start) (sym is) ∙ reaches.unmet; is = ap (carried rules start) is };
+  shows = reaches.now.shows;
+}

@@ -1,229 +1,241 @@
-//! The commands, carried out in turn over registers and output.
-ghost use Rattle.std.specs.Prelude.{◌≡◌, ℕ, List, [], ◌∷◌, ◌++◌, ◌+◌, ◌-◌, ◌^◌, ◌<◌, ◌≤◌, length, take, drop, ◌&&◌, nat_lt, true, is_some, None, if◌then◌else◌, IfOk, IfErr, IfSome, OnOk, OnErr};
-ghost use Rattle.std.specs.List.{flat_map, list_all};
-ghost use Rattle.outside.specs.Told.{Stays, Grows};
+//! The commands, carried out in turn.
+ghost use Rattle.std.specs.Prelude.{◌≡◌, ℕ, ◌≤◌, true, List, Option, IfOk, IfErr, OnOk, OnErr};
+ghost use Rattle.outside.specs.Told.{Told, Grows};
 ghost use Rattle.outside.specs.Sent.{CameInPart};
-ghost use Rattle.readout.specs.PlacedTasks.{IsShaped};
-ghost use Rattle.flymon_engine.specs.Script.{is_served};
-ghost use Rattle.flymon_engine.specs.Cells.{AreCells, default_geometry};
-ghost use Rattle.flymon_engine.specs.Lines.{added_line, packets_line};
-ghost use Rattle.flymon_engine.specs.Carrying.{IsToldBefore, HaltHasCause, MeetsAs, SendsBy, CallsBy, LaysBy, FaultsBy};
-ghost use Rattle.flymon_engine.specs.Live.{job_at, script_at, HoldStart};
-ghost use Rattle.flymon_engine.specs.Steps.{matched, calls_on, calls_of, asked_for, taken_by, most_packets, start, state_at, meets, written, state_from, calls_from, text_from, fault_from, calls_all, text_of, counted, fault_met};
+ghost use Rattle.fm_io.specs.Slots.{slot_at, OthersStay};
+ghost use Rattle.fm_io.specs.Names.{DirectoryStays};
+ghost use Rattle.capture_read.specs.Steps.{MovesOn};
+ghost use Rattle.flymon_engine.specs.Arrivals.{Comes};
+ghost use Rattle.flymon_engine.specs.Captures.{IsReady};
+ghost use Rattle.flymon_engine.specs.Works.{work_of, works_of};
+ghost use Rattle.flymon_engine.specs.Causes.{HasCause, halt_of};
+ghost use Rattle.flymon_engine.specs.Runs.{Run};
+ghost use Rattle.flymon_engine.specs.Moves.{WasTold};
+ghost use Rattle.flymon_engine.specs.Worlds.{Before, WhereTold, Shows, IsAt, EndsAt, GoesOn, Goes, TakesBy};
 
-use crate::frames::Frames;
-use crate::lines::{line_added, line_packets, send};
-use crate::reading_out::read_out;
+use crate::captures::next_packet;
+use crate::lines::{line_packets, send};
+use crate::machine::{AskFault, Machine};
 use crate::stop::Halt;
-use crate::task::LiveTask;
-use capture_read::CaptureFault;
-use fm_io::Sink;
-use pkt_headers::Packet;
-use readout::Readout;
-use reg_file::RegFile;
+use crate::work::{Change, Work, work_of};
+use capture_read::{Capture, CaptureFault};
+use fm_io::{Files, Sink};
+use readout::Request;
+use reg_file::{DeviceFault, RegFile};
 use task_lang::Command;
 
-/// The whole script: the task is added, and then each command behind it carried out in turn.
-pub(crate) fn carry_all<R: RegFile, O: Sink>(
-    live: &LiveTask,
+/// All commands, one after another.
+pub(crate) fn carry_all<F: Files, M: Machine, R: RegFile, O: Sink>(
     commands: &[Command],
-    frames: &Frames,
-    reader: &mut Readout,
+    capture: &mut Capture,
+    files: &mut F,
+    machine: &mut M,
     regs: &mut R,
     out: &mut O,
 ) -> Result<(), Halt>
-    requires shaped { IsShaped default_geometry (R.dims regs.old) }
-    requires room { live.now.bits ≤ reader.old }
-    requires served { list_all is_served commands.now ≡ true }
-    ensures later { O.faults out.old ≤ O.faults out.new }
+    requires attached { (slot_at (F.slots files.old) 2).attached ≡ true }
+    requires ready { IsReady capture.old (slot_at (F.slots files.old) 2) }
+    requires fits { M.fits machine.old (R.dims regs.old) }
+    ensures attached { (slot_at (F.slots files.new) 2).attached ≡ true }
+    ensures fits { M.fits machine.new (R.dims regs.new) }
+    ensures dims { R.dims regs.new ≡ R.dims regs.old }
+    ensures strays { F.strays files.new ≡ F.strays files.old }
+    ensures directory { DirectoryStays (F.directory files.old) (F.directory files.new) }
+    ensures others { OthersStay 2 (F.slots files.old) (F.slots files.new) }
+    ensures later { F.faults files.old ≤ F.faults files.new }
     ensures regs_later { R.faults regs.old ≤ R.faults regs.new }
-    ensures cause { IfErr result (HaltHasCause (O.faults out.old) (O.faults out.new) (R.faults regs.old) (R.faults regs.new) frames.now.fault) }
-    ensures contents { LaysBy live.now.hash_key (job_at live.now)
-        (counted (script_at live.now commands.now) frames.now.packets.items frames.now.fault) result (R.contents regs.new) }
-    ensures calls { CallsBy (R.calls regs.old)
-        (calls_all live.now.hash_key (script_at live.now commands.now) frames.now.packets.items frames.now.fault) result (R.calls regs.new) }
-    ensures sent { IfSome (R.contents regs.new) (λ _. SendsBy (O.sent out.old)
-        (text_of live.now.hash_key (script_at live.now commands.now) frames.now.packets.items frames.now.fault) result (O.sent out.new)) }
-    ensures fault { FaultsBy (fault_met (script_at live.now commands.now) frames.now.packets.items frames.now.fault) result }
+    ensures out_later { O.faults out.old ≤ O.faults out.new }
+    ensures cause { IfErr result (HasCause (F.faults files.old) (F.faults files.new) (F.last files.new)
+        (R.faults regs.old) (R.faults regs.new) (O.faults out.old) (O.faults out.new)) }
+    ensures cursor { Told MovesOn (slot_at (F.slots files.old) 2).cursor (slot_at (F.slots files.new) 2).cursor }
+    ensures cells { WasTold (R.contents regs.old) (R.contents regs.new) }
+    ensures run { (before : Before) (start : Run)
+        → WhereTold (slot_at (F.slots files.old) 2).cursor (R.contents regs.old)
+        (λ t c. IsAt (M.stands machine.old) (Comes capture.old) before (R.calls regs.old) (O.sent out.old) t c start)
+        → WhereTold (slot_at (F.slots files.new) 2).cursor (R.contents regs.new)
+        (EndsAt M.rules (M.stands machine.new) before (R.calls regs.new) (O.sent out.new) result start (works_of commands.now)) }
 {
-    add(live, regs, out)?;
-    carry_commands(
-        live,
-        commands,
-        &frames.packets,
-        frames.fault,
-        reader,
-        regs,
-        out,
-    )
-}
-
-/// The commands behind the task's first line, over cells that hold its start value.
-fn carry_commands<R: RegFile, O: Sink>(
-    live: &LiveTask,
-    commands: &[Command],
-    packets: &[Packet],
-    fault: Option<CaptureFault>,
-    reader: &mut Readout,
-    regs: &mut R,
-    out: &mut O,
-) -> Result<(), Halt>
-    requires shaped { IsShaped default_geometry (R.dims regs.old) }
-    requires room { live.now.bits ≤ reader.old }
-    requires served { list_all is_served commands.now ≡ true }
-    requires cells { IfSome (R.contents regs.old) (AreCells live.now.hash_key (job_at live.now) []) }
-    ensures later { O.faults out.old ≤ O.faults out.new }
-    ensures regs_later { R.faults regs.old ≤ R.faults regs.new }
-    ensures cause { IfErr result (HaltHasCause (O.faults out.old) (O.faults out.new) (R.faults regs.old) (R.faults regs.new) fault) }
-    ensures told { IsToldBefore (R.contents regs.old) (R.contents regs.new) }
-    ensures contents { LaysBy live.now.hash_key (job_at live.now) (state_from (job_at live.now) fault (start packets.now) commands.now).counted_packets result (R.contents regs.new) }
-    ensures calls { CallsBy (R.calls regs.old)
-        (calls_from live.now.hash_key (job_at live.now) fault (start packets.now) commands.now) result (R.calls regs.new) }
-    ensures sent { IfSome (R.contents regs.new) (λ _. SendsBy (O.sent out.old)
-        (text_from live.now.hash_key (job_at live.now) fault (start packets.now) commands.now) result (O.sent out.new)) }
-    ensures fault { FaultsBy (fault_from (job_at live.now) fault (start packets.now) commands.now) result }
-{
-    let mut taken = 0;
     'commands: for command in commands {
-        taken = carry_one(live, command, packets, fault, taken, reader, regs, out)?;
+        match carry_one(command, capture, files, machine, regs, out) {
+            Ok(()) => {}
+            Err(halt) => return Err(halt),
+        }
     }
     Ok(())
 }
 
-/// Puts the start value into the task's cells, and says that the task was added.
-#[tactic(auto, using(outside::proofs::SentLemmas::none_in_part))]
-fn add<R: RegFile, O: Sink>(live: &LiveTask, regs: &mut R, out: &mut O) -> Result<(), Halt>
-    requires { IsShaped default_geometry (R.dims regs.old) }
-    ensures later { O.faults out.old ≤ O.faults out.new }
-    ensures regs_later { R.faults regs.old ≤ R.faults regs.new }
-    ensures cause { IfErr result (HaltHasCause (O.faults out.old) (O.faults out.new) (R.faults regs.old) (R.faults regs.new) None) }
-    ensures dims { R.dims regs.new ≡ R.dims regs.old }
-    ensures told { IsToldBefore (R.contents regs.old) (R.contents regs.new) }
-    ensures contents { OnOk result (IfSome (R.contents regs.new) (HoldStart (job_at live.now) live.now.task.rows)) }
-    ensures calls { Stays (R.calls regs.old) (R.calls regs.new) }
-    ensures sent { OnOk result (Grows (O.sent out.old) (added_line live.now.task.name) (O.sent out.new)) }
-    ensures part { OnErr result (CameInPart (O.sent out.old) (added_line live.now.task.name) (O.sent out.new)) }
-{
-    if live.fill(regs).is_err() {
-        return Err(Halt::Device);
-    }
-    send(out, &line_added(live.task.name()))
-}
-
-/// Passes the packets from one place to another, each with its operations.
-fn pass<R: RegFile>(live: &LiveTask, packets: &[Packet], from: usize, to: usize, regs: &mut R)
-    requires from { from ≤ to }
-    requires to { to ≤ length packets.now }
-    requires shaped { IsShaped default_geometry (R.dims regs.old) }
-    requires cells { IfSome (R.contents regs.old) (AreCells live.now.hash_key (job_at live.now) (matched (job_at live.now) (take from packets.now))) }
-    ensures faults { R.faults regs.new ≡ R.faults regs.old }
-    ensures dims { R.dims regs.new ≡ R.dims regs.old }
-    ensures told { IsToldBefore (R.contents regs.old) (R.contents regs.new) }
-    ensures contents { IfSome (R.contents regs.new) (AreCells live.now.hash_key (job_at live.now) (matched (job_at live.now) (take to packets.now))) }
-    ensures calls { Grows (R.calls regs.old)
-        (flat_map (calls_on live.now.hash_key (job_at live.now)) (matched (job_at live.now) (take (to - from) (drop from packets.now)))) (R.calls regs.new) }
-{
-    'packets: for at in from..to {
-        live.count(&packets[at], regs);
-    }
-}
-
-/// The most packets that `run` takes.
-const MOST_PACKETS: usize = 4_294_967_295;
-
-/// The fault of the capture, where fewer packets are left than a command asks for.
-#[tactic(auto, using(std::proofs::lemmas::Bool::Decides::nat_tests))]
-fn damage(fault: Option<CaptureFault>, left: usize, asked: usize) -> Option<CaptureFault>
-    ensures { result ≡ (if is_some fault && nat_lt left asked then fault else None) }
-{
-    if left < asked { fault } else { None }
-}
-
-/// Passes the packets that are left, at most so many, and writes how many they were, unless the
-/// capture is damaged first.
-fn take_packets<R: RegFile, O: Sink>(
-    live: &LiveTask,
-    asked: usize,
-    packets: &[Packet],
-    fault: Option<CaptureFault>,
-    taken: usize,
-    regs: &mut R,
-    out: &mut O,
-) -> Result<usize, Halt>
-    requires taken { taken ≤ length packets.now }
-    requires shaped { IsShaped default_geometry (R.dims regs.old) }
-    requires cells { IfSome (R.contents regs.old) (AreCells live.now.hash_key (job_at live.now) (matched (job_at live.now) (take taken packets.now))) }
-    ensures later { O.faults out.old ≤ O.faults out.new }
-    ensures cause { IfErr result (HaltHasCause (O.faults out.old) (O.faults out.new) 0 0 fault) }
-    ensures faults { R.faults regs.new ≡ R.faults regs.old }
-    ensures dims { R.dims regs.new ≡ R.dims regs.old }
-    ensures told { IsToldBefore (R.contents regs.old) (R.contents regs.new) }
-    ensures met { MeetsAs (is_some fault && nat_lt (length (drop taken packets.now)) asked) result }
-    ensures next { IfOk result (λ next. next ≡ taken + length (take asked (drop taken packets.now))) }
-    ensures inside { IfOk result (λ next. next ≤ length packets.now) }
-    ensures contents { LaysBy live.now.hash_key (job_at live.now)
-        (matched (job_at live.now) (take (taken + length (take asked (drop taken packets.now))) packets.now)) result (R.contents regs.new) }
-    ensures calls { Grows (R.calls regs.old)
-        (flat_map (calls_on live.now.hash_key (job_at live.now)) (matched (job_at live.now) (take asked (drop taken packets.now)))) (R.calls regs.new) }
-    ensures sent { SendsBy (O.sent out.old)
-        (if is_some fault && nat_lt (length (drop taken packets.now)) asked then []
-        else packets_line (length (take asked (drop taken packets.now)))) result (O.sent out.new) }
-{
-    let left = packets.len() - taken;
-    let count = left.min(asked);
-    pass(live, packets, taken, taken + count, regs);
-    if let Some(fault) = damage(fault, left, asked) {
-        return Err(Halt::Damage(fault));
-    }
-    send(out, &line_packets(count))?;
-    Ok(taken + count)
-}
-
-/// One command, by the packets that were taken before it; answers how many are taken behind it.
-fn carry_one<R: RegFile, O: Sink>(
-    live: &LiveTask,
+/// One command.
+fn carry_one<F: Files, M: Machine, R: RegFile, O: Sink>(
     command: &Command,
-    packets: &[Packet],
-    fault: Option<CaptureFault>,
-    taken: usize,
-    reader: &mut Readout,
+    capture: &mut Capture,
+    files: &mut F,
+    machine: &mut M,
     regs: &mut R,
     out: &mut O,
-) -> Result<usize, Halt>
-    requires served { is_served command.now ≡ true }
-    requires taken { taken ≤ length packets.now }
-    requires shaped { IsShaped default_geometry (R.dims regs.old) }
-    requires room { live.now.bits ≤ reader.old }
-    requires cells { IfSome (R.contents regs.old) (AreCells live.now.hash_key (job_at live.now) (matched (job_at live.now) (take taken packets.now))) }
-    ensures room { reader.new ≡ reader.old }
-    ensures later { O.faults out.old ≤ O.faults out.new }
-    ensures regs_later { R.faults regs.old ≤ R.faults regs.new }
-    ensures cause { IfErr result (HaltHasCause (O.faults out.old) (O.faults out.new) (R.faults regs.old) (R.faults regs.new) fault) }
+) -> Result<(), Halt>
+    requires attached { (slot_at (F.slots files.old) 2).attached ≡ true }
+    requires ready { IsReady capture.old (slot_at (F.slots files.old) 2) }
+    requires fits { M.fits machine.old (R.dims regs.old) }
+    ensures attached { (slot_at (F.slots files.new) 2).attached ≡ true }
+    ensures ready { IfOk result (λ _. IsReady capture.new (slot_at (F.slots files.new) 2)) }
+    ensures fits { M.fits machine.new (R.dims regs.new) }
     ensures dims { R.dims regs.new ≡ R.dims regs.old }
-    ensures told { IsToldBefore (R.contents regs.old) (R.contents regs.new) }
-    ensures met { MeetsAs (meets (state_at (job_at live.now) packets.now taken) fault command.now) result }
-    ensures next { IfOk result (λ next. next ≡ taken + length (taken_by (state_at (job_at live.now) packets.now taken) command.now)) }
-    ensures inside { IfOk result (λ next. next ≤ length packets.now) }
-    ensures contents { LaysBy live.now.hash_key (job_at live.now)
-        (matched (job_at live.now) (take (taken + length (taken_by (state_at (job_at live.now) packets.now taken) command.now)) packets.now)) result (R.contents regs.new) }
-    ensures calls { Grows (R.calls regs.old) (calls_of live.now.hash_key (job_at live.now) (state_at (job_at live.now) packets.now taken) command.now) (R.calls regs.new) }
-    ensures sent { IfSome (R.contents regs.new) (λ _. SendsBy (O.sent out.old)
-        (written live.now.hash_key (job_at live.now) fault (state_at (job_at live.now) packets.now taken) command.now) result (O.sent out.new)) }
+    ensures strays { F.strays files.new ≡ F.strays files.old }
+    ensures directory { DirectoryStays (F.directory files.old) (F.directory files.new) }
+    ensures others { OthersStay 2 (F.slots files.old) (F.slots files.new) }
+    ensures later { F.faults files.old ≤ F.faults files.new }
+    ensures regs_later { R.faults regs.old ≤ R.faults regs.new }
+    ensures out_later { O.faults out.old ≤ O.faults out.new }
+    ensures cause { IfErr result (HasCause (F.faults files.old) (F.faults files.new) (F.last files.new)
+        (R.faults regs.old) (R.faults regs.new) (O.faults out.old) (O.faults out.new)) }
+    ensures cursor { Told MovesOn (slot_at (F.slots files.old) 2).cursor (slot_at (F.slots files.new) 2).cursor }
+    ensures cells { WasTold (R.contents regs.old) (R.contents regs.new) }
+    ensures run { (before : Before) (run : Run)
+        → WhereTold (slot_at (F.slots files.old) 2).cursor (R.contents regs.old)
+        (λ t c. IsAt (M.stands machine.old) (Comes capture.old) before (R.calls regs.old) (O.sent out.old) t c run)
+        → WhereTold (slot_at (F.slots files.new) 2).cursor (R.contents regs.new)
+        (Goes M.rules (M.stands machine.new) (Comes capture.new) before (R.calls regs.new) (O.sent out.new) result run (work_of command.now)) }
 {
-    if let Some(asked) = asked_for(command) {
-        return take_packets(live, asked, packets, fault, taken, regs, out);
+    match work_of(command) {
+        Work::Take(asked) => take(asked, capture, files, machine, regs, out),
+        Work::Change(change) => change_tasks(&change, machine, regs, out),
+        Work::Ask(request) => ask(&request, machine, regs, out),
     }
-    read_out(live, command, reader, regs, out)?;
-    Ok(taken)
 }
 
-/// How many packets the command asks for, where it asks for packets.
-fn asked_for(command: &Command) -> Option<usize>
-    ensures { result ≡ asked_for command.now }
+/// Takes packets, and says how many they were.
+fn take<F: Files, M: Machine, R: RegFile, O: Sink>(
+    asked: u32,
+    capture: &mut Capture,
+    files: &mut F,
+    machine: &mut M,
+    regs: &mut R,
+    out: &mut O,
+) -> Result<(), Halt>
+    requires attached { (slot_at (F.slots files.old) 2).attached ≡ true }
+    requires ready { IsReady capture.old (slot_at (F.slots files.old) 2) }
+    requires fits { M.fits machine.old (R.dims regs.old) }
+    ensures attached { (slot_at (F.slots files.new) 2).attached ≡ true }
+    ensures ready { IfOk result (λ _. IsReady capture.new (slot_at (F.slots files.new) 2)) }
+    ensures fits { M.fits machine.new (R.dims regs.new) }
+    ensures dims { R.dims regs.new ≡ R.dims regs.old }
+    ensures strays { F.strays files.new ≡ F.strays files.old }
+    ensures directory { DirectoryStays (F.directory files.old) (F.directory files.new) }
+    ensures others { OthersStay 2 (F.slots files.old) (F.slots files.new) }
+    ensures later { F.faults files.old ≤ F.faults files.new }
+    ensures regs_later { R.faults regs.old ≤ R.faults regs.new }
+    ensures out_later { O.faults out.old ≤ O.faults out.new }
+    ensures cause { IfErr result (HasCause (F.faults files.old) (F.faults files.new) (F.last files.new)
+        (R.faults regs.old) (R.faults regs.new) (O.faults out.old) (O.faults out.new)) }
+    ensures cursor { Told MovesOn (slot_at (F.slots files.old) 2).cursor (slot_at (F.slots files.new) 2).cursor }
+    ensures cells { WasTold (R.contents regs.old) (R.contents regs.new) }
+    ensures run { (before : Before) (run : Run)
+        → WhereTold (slot_at (F.slots files.old) 2).cursor (R.contents regs.old)
+        (λ t c. IsAt (M.stands machine.old) (Comes capture.old) before (R.calls regs.old) (O.sent out.old) t c run)
+        → WhereTold (slot_at (F.slots files.new) 2).cursor (R.contents regs.new)
+        (Goes M.rules (M.stands machine.new) (Comes capture.new) before (R.calls regs.new) (O.sent out.new) result run (Work.Take asked)) }
 {
-    match command {
-        Command::Packets(count) => Some(*count as usize),
-        Command::Run => Some(MOST_PACKETS),
-        _ => None,
+    match take_packets(asked, capture, files, machine, regs) {
+        Ok(count) => send(out, &line_packets(count)),
+        Err(halt) => Err(halt),
+    }
+}
+
+/// Takes packets, at most so many, and answers how many they were.
+fn take_packets<F: Files, M: Machine, R: RegFile>(
+    asked: u32,
+    capture: &mut Capture,
+    files: &mut F,
+    machine: &mut M,
+    regs: &mut R,
+) -> Result<u32, Halt>
+    requires attached { (slot_at (F.slots files.old) 2).attached ≡ true }
+    requires ready { IsReady capture.old (slot_at (F.slots files.old) 2) }
+    requires fits { M.fits machine.old (R.dims regs.old) }
+    ensures attached { (slot_at (F.slots files.new) 2).attached ≡ true }
+    ensures ready { IfOk result (λ _. IsReady capture.new (slot_at (F.slots files.new) 2)) }
+    ensures fits { M.fits machine.new (R.dims regs.new) }
+    ensures dims { R.dims regs.new ≡ R.dims regs.old }
+    ensures strays { F.strays files.new ≡ F.strays files.old }
+    ensures directory { DirectoryStays (F.directory files.old) (F.directory files.new) }
+    ensures others { OthersStay 2 (F.slots files.old) (F.slots files.new) }
+    ensures later { F.faults files.old ≤ F.faults files.new }
+    ensures faults { R.faults regs.new ≡ R.faults regs.old }
+    ensures cause { IfErr result (HasCause (F.faults files.old) (F.faults files.new) (F.last files.new) 0 0 0 0) }
+    ensures cursor { Told MovesOn (slot_at (F.slots files.old) 2).cursor (slot_at (F.slots files.new) 2).cursor }
+    ensures cells { WasTold (R.contents regs.old) (R.contents regs.new) }
+    ensures run { (before : Before) (sent : Option (List ℕ)) (run : Run)
+        → WhereTold (slot_at (F.slots files.old) 2).cursor (R.contents regs.old)
+        (λ t c. IsAt (M.stands machine.old) (Comes capture.old) before (R.calls regs.old) sent t c run)
+        → WhereTold (slot_at (F.slots files.new) 2).cursor (R.contents regs.new)
+        (TakesBy M.rules (M.stands machine.new) (Comes capture.new) before (R.calls regs.new) sent result run (Work.Take asked)) }
+{
+    'packets: for taken in 0..asked {
+        match next_packet(capture, files) {
+            Ok(Some(packet)) => machine.pass(regs, &packet),
+            Ok(None) => return Ok(taken),
+            Err(fault) => return Err(halt_of(fault)),
+        }
+    }
+    Ok(asked)
+}
+
+/// A change, and the line of what it came to.
+fn change_tasks<M: Machine, R: RegFile, O: Sink>(
+    change: &Change,
+    machine: &mut M,
+    regs: &mut R,
+    out: &mut O,
+) -> Result<(), Halt>
+    requires fits { M.fits machine.old (R.dims regs.old) }
+    ensures fits { M.fits machine.new (R.dims regs.new) }
+    ensures dims { R.dims regs.new ≡ R.dims regs.old }
+    ensures regs_later { R.faults regs.old ≤ R.faults regs.new }
+    ensures out_later { O.faults out.old ≤ O.faults out.new }
+    ensures cause { IfErr result (HasCause 0 0 0 (R.faults regs.old) (R.faults regs.new) (O.faults out.old) (O.faults out.new)) }
+    ensures cells { WasTold (R.contents regs.old) (R.contents regs.new) }
+    ensures run { (before : Before) (run : Run) → Told (λ old new.
+        Shows (M.stands machine.old) before (R.calls regs.old) (O.sent out.old) old run
+        → (at : ℕ) → GoesOn M.rules (M.stands machine.new) before (R.calls regs.new) (O.sent out.new) result run (Work.Change change.now) at new) (R.contents regs.old) (R.contents regs.new) }
+{
+    match machine.change(regs, change) {
+        Ok(line) => send(out, &line),
+        Err(DeviceFault) => Err(Halt::Device),
+    }
+}
+
+/// A read-out, or the line that says that it is refused.
+fn ask<M: Machine, R: RegFile, O: Sink>(
+    request: &Request,
+    machine: &mut M,
+    regs: &mut R,
+    out: &mut O,
+) -> Result<(), Halt>
+    requires fits { M.fits machine.old (R.dims regs.old) }
+    ensures fits { M.fits machine.new (R.dims regs.new) }
+    ensures dims { R.dims regs.new ≡ R.dims regs.old }
+    ensures regs_later { R.faults regs.old ≤ R.faults regs.new }
+    ensures out_later { O.faults out.old ≤ O.faults out.new }
+    ensures cause { IfErr result (HasCause 0 0 0 (R.faults regs.old) (R.faults regs.new) (O.faults out.old) (O.faults out.new)) }
+    ensures cells { WasTold (R.contents regs.old) (R.contents regs.new) }
+    ensures run { (before : Before) (run : Run) → Told (λ old new.
+        Shows (M.stands machine.old) before (R.calls regs.old) (O.sent out.old) old run
+        → (at : ℕ) → GoesOn M.rules (M.stands machine.new) before (R.calls regs.new) (O.sent out.new) result run (Work.Ask request.now) at new) (R.contents regs.old) (R.contents regs.new) }
+{
+    match machine.ask(regs, request, out) {
+        Ok(None) => Ok(()),
+        Ok(Some(line)) => send(out, &line),
+        Err(AskFault::Device) => Err(Halt::Device),
+        Err(AskFault::Write) => Err(Halt::Output),
+    }
+}
+
+/// What a fault of the capture is to the run.
+fn halt_of(fault: CaptureFault) -> Halt
+    ensures { result ≡ halt_of fault }
+{
+    match fault {
+        CaptureFault::Read => Halt::Input,
+        _ => Halt::Damage(fault),
     }
 }

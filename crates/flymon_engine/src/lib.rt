@@ -1,21 +1,17 @@
 //! A run of `flymon`: from the words of its command line to the bytes that it writes.
 #![tactic(auto)]
 
+mod captures;
 mod carry;
-mod frames;
+pub mod laws;
 mod lines;
-mod live;
+mod machine;
 mod opening;
-mod operation_of_entry;
-mod reading_out;
 mod report;
-mod session;
 mod status;
 mod stop;
-mod task;
 mod top;
-mod view;
 mod words;
+mod work;
 
 pub use status::Status;
-pub use top::run;

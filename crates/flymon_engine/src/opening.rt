@@ -1,111 +1,151 @@
 //! The opening of a run: what the words name is attached, read and judged, in this order.
-ghost use Rattle.std.specs.Prelude.{◌≡◌, ◌+◌, ◌<◌, ◌≤◌, ◌==◌, cond, take, IfOk, IfErr, IfSome};
-ghost use Rattle.std.specs.Option.{option_and_then};
-ghost use Rattle.fm_io.specs.Slots.{slot_at, OthersStay};
-ghost use Rattle.fm_io.specs.Names.{DirectoryStays, told_text};
+ghost use Rattle.std.specs.Prelude.{◌≡◌, ◌+◌, ◌<◌, ◌≤◌, true, take, IfOk, IfErr, IfSome, IsErrOf, MatchResult};
+ghost use Rattle.outside.specs.Faults.{Rose};
+ghost use Rattle.fm_io.specs.Slots.{slot_at, SlotStays, OthersStay};
+ghost use Rattle.fm_io.specs.Names.{DirectoryStays};
+ghost use Rattle.fm_io.specs.Loops.{last_read};
 ghost use Rattle.flymon_engine.specs.Words.{form_of, texts_of};
-ghost use Rattle.flymon_engine.specs.Script.{verdict_in};
-ghost use Rattle.flymon_engine.specs.Frames.{passage_in};
-ghost use Rattle.flymon_engine.specs.Opening.{HasInputCause, IsReadStop, IsJudgeStop, IsCaptureStop, IsFileStop, StopsWithin, KeepsStrays, stop_in};
-ghost use Rattle.task_lang.specs.Script.{script_limit};
-ghost use Rattle.flymon_engine.specs.Expected.{expected_for, expected_after, word_for, JudgesAs, ReadsAs, OpensAs, StopsFormed, StopsInPlace};
-ghost use Rattle.flymon_engine.specs.Views.{script_view, passage_view, expected_view};
+ghost use Rattle.flymon_engine.specs.Captures.{IsReady, HasBegun};
+ghost use Rattle.flymon_engine.specs.Opening.{is_standard, IsThere, Reads, GivesProfile, GivesCommands, HasHeader, Opens, HasProfile, IsValid, IsWithin, StopsFiles, HasInputCause, StraysStay, StraysBy, KeepsNames, refusal_of, header_refusal};
 
-use crate::frames::{Frames, frames_of, is_failed_read};
-use crate::session::Session;
-use crate::stop::Stop;
-use crate::words::{Names, names_of};
-use capture_read::{BeginFail, Capture};
+use crate::stop::{File, Refusal};
+use crate::words::Names;
+use capture_read::{BeginFail, Capture, CaptureFault};
 use fm_io::{Failed, Files, ReadFail, read_whole};
 use std::alloc::Global;
-use task_lang::{ParseFail, SCRIPT_LIMIT, parse_script};
+use sw_profile::{Profile, ProfileFail, default_profile, read_profile};
+use task_lang::{Command, ParseFail, SCRIPT_LIMIT, parse_script};
 
-/// A script that can be carried out, and the packets that it asks for.
+/// The most bytes of a profile.
+const PROFILE_LIMIT: usize = 65_536;
+
+/// What a replay begins with.
 #[derive(Drop)]
 pub(crate) struct Opened {
-    pub session: Session,
-    pub frames: Frames,
+    pub profile: Profile,
+    pub commands: Vec<Command>,
+    pub capture: Capture,
 }
 
-/// Reads and judges all that the words name.
-pub(crate) fn open<F: Files>(alloc: Global, words: &[String], files: &mut F) -> Result<Opened, Stop>
+/// Reads and judges the three files, one after another.
+pub(crate) fn open_files<F: Files>(
+    alloc: Global,
+    names: Names<'_>,
+    files: &mut F,
+) -> Result<Opened, Refusal>
     ensures later { F.faults files.old ≤ F.faults files.new }
     ensures cause { IfErr result (HasInputCause (F.faults files.old) (F.faults files.new) (F.last files.new)) }
-    ensures expected { OpensAs expected_view (expected_for (form_of (texts_of words.now)) (F.directory files.new) (F.slots files.new)) result }
-    ensures place { IfErr result (StopsInPlace (form_of (texts_of words.now)) (F.directory files.new) (F.slots files.new) (F.last files.new)) }
-    ensures strays { KeepsStrays (word_for (form_of (texts_of words.now)) (F.last files.new))
-        (F.directory files.new).names (F.strays files.old) (F.strays files.new) (stop_in result) }
+    ensures standard { is_standard names.entry.profile.now ≡ true → SlotStays (F.slots files.old).profile (F.slots files.new).profile }
+    ensures opens { IfOk result (λ opened. Opens names.entry.profile.now names.entry.script.now names.entry.capture.now
+        (F.directory files.new) (F.slots files.new) opened.profile opened.commands.items) }
+    ensures attached { IfOk result (λ _. (slot_at (F.slots files.new) 2).attached ≡ true) }
+    ensures ready { IfOk result (λ opened. IsReady opened.capture (slot_at (F.slots files.new) 2)) }
+    ensures begun { IfOk result (λ opened. IfSome (slot_at (F.slots files.new) 2).cursor (HasBegun opened.capture)) }
+    ensures refused { IfErr result (StopsFiles names.entry.profile.now names.entry.script.now names.entry.capture.now
+        (F.directory files.new) (F.slots files.new)) }
+    ensures strays { MatchResult result
+        (λ _. StraysStay (F.directory files.new) (F.strays files.old) (F.strays files.new))
+        (KeepsNames names.entry.profile.now names.entry.script.now names.entry.capture.now
+        (F.directory files.new) (F.strays files.old) (F.strays files.new)) }
 {
-    let Some(names) = names_of(words) else {
-        return Err(Stop::Usage);
-    };
-    if names.profile != "-" {
-        return Err(Stop::Unbuilt);
+    let profile = profile_of(alloc, names, files)?;
+    let commands = commands_of(alloc, names, files)?;
+    let capture = capture_of(alloc, names, files)?;
+    Ok(Opened {
+        profile,
+        commands,
+        capture,
+    })
+}
+
+/// The profile that the words name.
+fn profile_of<F: Files>(
+    alloc: Global,
+    names: Names<'_>,
+    files: &mut F,
+) -> Result<Profile, Refusal>
+    ensures later { F.faults files.old ≤ F.faults files.new }
+    ensures cause { IfErr result (HasInputCause (F.faults files.old) (F.faults files.new) (F.last files.new)) }
+    ensures standard { is_standard names.entry.profile.now ≡ true → SlotStays (F.slots files.old).profile (F.slots files.new).profile }
+    ensures gives { IfOk result (GivesProfile names.entry.profile.now (F.directory files.new) (F.slots files.new)) }
+    ensures refused { IfErr result (StopsFiles names.entry.profile.now names.entry.script.now names.entry.capture.now
+        (F.directory files.new) (F.slots files.new)) }
+    ensures strays { MatchResult result
+        (λ _. StraysStay (F.directory files.new) (F.strays files.old) (F.strays files.new))
+        (KeepsNames names.entry.profile.now names.entry.script.now names.entry.capture.now
+        (F.directory files.new) (F.strays files.old) (F.strays files.new)) }
+{
+    if names.profile == "-" {
+        return Ok(default_profile());
     }
-    open_files(alloc, names, files)
-}
-
-/// The script's file and then the capture's.
-fn open_files<F: Files>(alloc: Global, names: Names<'_>, files: &mut F) -> Result<Opened, Stop>
-    ensures later { F.faults files.old ≤ F.faults files.new }
-    ensures cause { IfErr result (HasInputCause (F.faults files.old) (F.faults files.new) (F.last files.new)) }
-    ensures stop { IfErr result IsFileStop }
-    ensures expected { OpensAs expected_view
-        (option_and_then (λ text. expected_after (told_text (F.directory files.new) (F.slots files.new).capture names.entry.capture.now) (verdict_in text))
-        (told_text (F.directory files.new) (F.slots files.new).script names.entry.script.now)) result }
-    ensures within { F.last files.new ≡ 1 → IfErr result (StopsWithin script_limit (F.slots files.new).script) }
-    ensures formed { F.last files.new ≡ 2 → IfErr result (StopsFormed (told_text (F.directory files.new) (F.slots files.new).script names.entry.script.now)) }
-    ensures strays { KeepsStrays (cond (F.last files.new == 1) names.entry.script.now names.entry.capture.now)
-        (F.directory files.new).names (F.strays files.old) (F.strays files.new) (stop_in result) }
-{
-    let session = session_from(alloc, files, names.script)?;
-    let frames = frames_from(alloc, files, names.capture)?;
-    Ok(Opened { session, frames })
-}
-
-/// The session of the script of this name.
-fn session_from<F: Files>(alloc: Global, files: &mut F, name: &str) -> Result<Session, Stop>
-    ensures later { F.faults files.old ≤ F.faults files.new }
-    ensures cause { IfErr result (HasInputCause (F.faults files.old) (F.faults files.new) (F.last files.new)) }
-    ensures stop { IfErr result (IsJudgeStop 1) }
-    ensures within { IfErr result (StopsWithin script_limit (F.slots files.new).script) }
-    ensures directory { DirectoryStays (F.directory files.old) (F.directory files.new) }
-    ensures strays { KeepsStrays name.now (F.directory files.new).names (F.strays files.old) (F.strays files.new) (stop_in result) }
-    ensures text { IfSome (told_text (F.directory files.new) (F.slots files.new).script name.now) (λ bytes. JudgesAs script_view (verdict_in bytes) result) }
-{
-    let script = bytes_of(alloc, files, 1, name, SCRIPT_LIMIT)?;
-    match parse_script(alloc, &script) {
-        Ok(commands) => match Session::of(commands) {
-            Some(session) => Ok(session),
-            None => Err(Stop::Unbuilt),
+    match bytes_of(alloc, files, 0, names.profile, PROFILE_LIMIT) {
+        Ok(text) => match read_profile(alloc, &text) {
+            Ok(profile) => Ok(profile),
+            Err(ProfileFail::Fault(fault)) => Err(Refusal::Profile(fault)),
+            Err(ProfileFail::Memory) => Err(Refusal::Memory),
         },
-        Err(ParseFail::Fault(fault)) => Err(Stop::Script(fault)),
-        Err(ParseFail::Memory) => Err(Stop::Memory),
+        Err(fail) => Err(refusal_of(File::Profile, fail)),
     }
 }
 
-/// The packets of the capture of this name.
-fn frames_from<F: Files>(alloc: Global, files: &mut F, name: &str) -> Result<Frames, Stop>
+/// The commands of the script.
+fn commands_of<F: Files>(
+    alloc: Global,
+    names: Names<'_>,
+    files: &mut F,
+) -> Result<Vec<Command>, Refusal>
     ensures later { F.faults files.old ≤ F.faults files.new }
     ensures cause { IfErr result (HasInputCause (F.faults files.old) (F.faults files.new) (F.last files.new)) }
-    ensures stop { IfErr result IsCaptureStop }
+    ensures directory { DirectoryStays (F.directory files.old) (F.directory files.new) }
+    ensures others { OthersStay 1 (F.slots files.old) (F.slots files.new) }
+    ensures gives { IfOk result (λ commands. GivesCommands names.entry.script.now (F.directory files.new) (F.slots files.new) commands.items) }
+    ensures refused { HasProfile names.entry.profile.now (F.directory files.old) (F.slots files.old)
+        → IfErr result (StopsFiles names.entry.profile.now names.entry.script.now names.entry.capture.now
+        (F.directory files.new) (F.slots files.new)) }
+    ensures strays { MatchResult result
+        (λ _. StraysStay (F.directory files.new) (F.strays files.old) (F.strays files.new))
+        (KeepsNames names.entry.profile.now names.entry.script.now names.entry.capture.now
+        (F.directory files.new) (F.strays files.old) (F.strays files.new)) }
+{
+    match bytes_of(alloc, files, 1, names.script, SCRIPT_LIMIT) {
+        Ok(text) => match parse_script(alloc, &text) {
+            Ok(commands) => Ok(commands),
+            Err(ParseFail::Fault(fault)) => Err(Refusal::Script(fault)),
+            Err(ParseFail::Memory) => Err(Refusal::Memory),
+        },
+        Err(fail) => Err(refusal_of(File::Script, fail)),
+    }
+}
+
+/// The capture, with its header read.
+fn capture_of<F: Files>(
+    alloc: Global,
+    names: Names<'_>,
+    files: &mut F,
+) -> Result<Capture, Refusal>
+    ensures later { F.faults files.old ≤ F.faults files.new }
+    ensures cause { IfErr result (HasInputCause (F.faults files.old) (F.faults files.new) (F.last files.new)) }
     ensures directory { DirectoryStays (F.directory files.old) (F.directory files.new) }
     ensures others { OthersStay 2 (F.slots files.old) (F.slots files.new) }
-    ensures strays { KeepsStrays name.now (F.directory files.new).names (F.strays files.old) (F.strays files.new) (stop_in result) }
-    ensures text { IfSome (told_text (F.directory files.new) (F.slots files.new).capture name.now) (λ bytes. ReadsAs passage_view (passage_in bytes) result) }
+    ensures header { IfOk result (λ _. HasHeader names.entry.capture.now (F.directory files.new) (F.slots files.new)) }
+    ensures attached { IfOk result (λ _. (slot_at (F.slots files.new) 2).attached ≡ true) }
+    ensures ready { IfOk result (λ capture. IsReady capture (slot_at (F.slots files.new) 2)) }
+    ensures begun { IfOk result (λ capture. IfSome (slot_at (F.slots files.new) 2).cursor (HasBegun capture)) }
+    ensures refused { IsValid names.entry.profile.now names.entry.script.now (F.directory files.old) (F.slots files.old)
+        → IfErr result (StopsFiles names.entry.profile.now names.entry.script.now names.entry.capture.now
+        (F.directory files.new) (F.slots files.new)) }
+    ensures strays { MatchResult result
+        (λ _. StraysStay (F.directory files.new) (F.strays files.old) (F.strays files.new))
+        (KeepsNames names.entry.profile.now names.entry.script.now names.entry.capture.now
+        (F.directory files.new) (F.strays files.old) (F.strays files.new)) }
 {
-    if let Err(Failed) = files.attach(2, name) {
-        return Err(Stop::Input { slot: 2 });
+    if let Err(Failed) = files.attach(2, names.capture) {
+        return Err(Refusal::Input(File::Capture));
     }
     match Capture::begin(alloc, files) {
-        Ok(capture) => frames_of(alloc, capture, files),
-        Err(BeginFail::Fault(fault)) => {
-            if is_failed_read(fault) {
-                return Err(Stop::Input { slot: 2 });
-            }
-            Err(Stop::Capture(fault))
-        }
-        Err(BeginFail::Memory) => Err(Stop::Memory),
+        Ok(capture) => Ok(capture),
+        Err(BeginFail::Fault(fault)) => Err(header_refusal(fault)),
+        Err(BeginFail::Memory) => Err(Refusal::Memory),
     }
 }
 
@@ -116,24 +156,40 @@ fn bytes_of<F: Files>(
     slot: usize,
     name: &str,
     limit: usize,
-) -> Result<Vec<u8>, Stop>
+) -> Result<Vec<u8>, ReadFail>
     requires { slot < 3 }
     ensures later { F.faults files.old ≤ F.faults files.new }
-    ensures cause { IfErr result (HasInputCause (F.faults files.old) (F.faults files.new) (F.last files.new)) }
-    ensures stop { IfErr result (IsReadStop slot) }
-    ensures within { IfErr result (StopsWithin limit (slot_at (F.slots files.new) slot)) }
+    ensures failed { IsErrOf result ReadFail.Failed → Rose (F.faults files.old) (F.faults files.new) }
+    ensures last { F.last files.new ≡ last_read slot (F.last files.old) result }
+    ensures within { IsErrOf result ReadFail.Failed → IsWithin limit (slot_at (F.slots files.new) slot) }
     ensures directory { DirectoryStays (F.directory files.old) (F.directory files.new) }
     ensures others { OthersStay slot (F.slots files.old) (F.slots files.new) }
-    ensures strays { KeepsStrays name.now (F.directory files.new).names (F.strays files.old) (F.strays files.new) (stop_in result) }
-    ensures text { IfOk result (λ v.
-        IfSome (told_text (F.directory files.new) (slot_at (F.slots files.new) slot) name.now) (λ bytes. v.items ≡ take (limit + 1) bytes)) }
+    ensures strays { StraysBy name.now (F.directory files.new) (F.strays files.old) (F.strays files.new) }
+    ensures there { IsErrOf result ReadFail.Memory → IsThere name.now (F.directory files.new) }
+    ensures text { IfOk result (λ v. Reads name.now (F.directory files.new) (slot_at (F.slots files.new) slot) (λ bytes. v.items ≡ take (limit + 1) bytes)) }
 {
     if let Err(Failed) = files.attach(slot, name) {
-        return Err(Stop::Input { slot });
+        return Err(ReadFail::Failed);
     }
-    match read_whole(alloc, files, slot, limit) {
-        Ok(bytes) => Ok(bytes),
-        Err(ReadFail::Memory) => Err(Stop::Memory),
-        Err(ReadFail::Failed) => Err(Stop::Input { slot }),
+    read_whole(alloc, files, slot, limit)
+}
+
+/// What a file that could not be read is to the run.
+fn refusal_of(file: File, fail: ReadFail) -> Refusal
+    ensures { result ≡ refusal_of file fail }
+{
+    match fail {
+        ReadFail::Failed => Refusal::Input(file),
+        ReadFail::Memory => Refusal::Memory,
+    }
+}
+
+/// What a fault of the capture's header is to the run.
+fn header_refusal(fault: CaptureFault) -> Refusal
+    ensures { result ≡ header_refusal fault }
+{
+    match fault {
+        CaptureFault::Read => Refusal::Input(File::Capture),
+        _ => Refusal::Header(fault),
     }
 }

@@ -1,48 +1,89 @@
 //! The message of a run that stops.
 ghost use Rattle.std.specs.Prelude.{◌≡◌, ◌≤◌, ◌++◌, length, codes, decimal};
-ghost use Rattle.flymon_engine.specs.Clauses.{message_of, fault_words, script_words, line_words, item_words, field_words, file_word, SendsMessage};
+ghost use Rattle.sw_profile.specs.Words.{fault_text};
+ghost use Rattle.flymon_engine.specs.Messages.{message_of, refusal_words, halt_words, fault_words, script_words, line_words, item_words, field_words, file_words, SendsMessage};
 
-use crate::stop::Stop;
+use crate::stop::{File, Halt, Refusal, Stop};
 use capture_read::CaptureFault;
 use fm_io::{Sink, write_whole};
 use itoa::Buffer;
 use key_mask::{FieldFault, FieldKind, Line};
+use sw_profile::ProfileFault;
 use task_lang::{LineFault, ScriptFault};
 
-/// Sends the one message of a stop. A failed write changes nothing else.
-pub(crate) fn report<E: Sink>(stop: Stop, err: &mut E)
-    ensures later { E.faults err.old ≤ E.faults err.new }
-    ensures message { SendsMessage (message_of stop) (E.faults err.old) (E.faults err.new) (E.sent err.old) (E.sent err.new) }
+/// Sends the one message of a run's end. A failed write changes nothing else.
+pub(crate) fn report<E: Sink>(ended: Result<(), Stop>, err: &mut E)
+    ensures { SendsMessage (message_of ended) (E.faults err.old) (E.faults err.new) (E.sent err.old) (E.sent err.new) }
 {
-    let _ = write_whole(err, message(stop).as_str().as_bytes());
+    let _ = write_whole(err, message(ended).as_str().as_bytes());
 }
 
-fn message(stop: Stop) -> Line
-    ensures { result.bytes ≡ message_of stop }
+fn message(ended: Result<(), Stop>) -> Line
+    ensures { result.bytes ≡ message_of ended }
+{
+    match ended {
+        Ok(()) => Line::new(),
+        Err(Stop::Opening(refusal)) => refusal_line(refusal),
+        Err(Stop::Carrying(halt)) => halt_line(halt),
+    }
+}
+
+fn refusal_line(refusal: Refusal) -> Line
+    ensures { result.bytes ≡ refusal_words refusal }
 {
     let mut line = Line::new();
-    match stop {
-        Stop::Usage => line.push_str(
+    match refusal {
+        Refusal::Usage => line.push_str(
             "usage: flymon replay PROFILE SCRIPT CAPTURE | flymon demo SEED COUNT\n",
         ),
-        Stop::Unbuilt => line.push_str("not built\n"),
-        Stop::Script(fault) => {
+        Refusal::Profile(fault) => {
+            line.push_str("bad profile: ");
+            push_profile(&mut line, fault);
+        }
+        Refusal::Script(fault) => {
             line.push_str("bad script line ");
             push_script(&mut line, fault);
         }
-        Stop::Capture(fault) => {
+        Refusal::Header(fault) => {
             line.push_str("bad capture: ");
             push_fault(&mut line, fault);
         }
-        Stop::Input { slot } => {
+        Refusal::Input(file) => {
             line.push_str("input fault: ");
-            line.push_str(file_word(slot));
+            line.push_str(file_words(file));
         }
-        Stop::Output => line.push_str("output fault\n"),
-        Stop::Device => line.push_str("device fault\n"),
-        Stop::Memory => line.push_str("out of memory\n"),
+        Refusal::Device => line.push_str("device fault\n"),
+        Refusal::Memory => line.push_str("out of memory\n"),
     }
     line
+}
+
+fn halt_line(halt: Halt) -> Line
+    ensures { result.bytes ≡ halt_words halt }
+{
+    let mut line = Line::new();
+    match halt {
+        Halt::Damage(fault) => {
+            line.push_str("bad capture: ");
+            push_fault(&mut line, fault);
+        }
+        Halt::Input => line.push_str("input fault: capture\n"),
+        Halt::Device => line.push_str("device fault\n"),
+        Halt::Output => line.push_str("output fault\n"),
+    }
+    line
+}
+
+/// What is wrong with a profile.
+fn push_profile(line: &mut Line, fault: ProfileFault)
+    requires { length line.old.bytes ≤ 20 }
+    ensures { line.new.bytes ≡ line.old.bytes ++ (fault_text fault ++ codes "\n") }
+{
+    line.push_str(fault.words());
+    if let Some(key) = fault.key() {
+        line.push_str(key.name());
+    }
+    line.push_str("\n");
 }
 
 /// The number of a script's line, and what is wrong with it.
@@ -132,13 +173,12 @@ fn push_record(line: &mut Line, offset: u64, len: u32)
     push_number(line, " length ", len as u64);
 }
 
-/// What stands in a slot.
-fn file_word(slot: usize) -> &'static str
-    ensures { result.now ≡ file_word slot }
+fn file_words(file: File) -> &'static str
+    ensures { result.now ≡ file_words file }
 {
-    match slot {
-        0 => "profile\n",
-        1 => "script\n",
-        _ => "capture\n",
+    match file {
+        File::Profile => "profile\n",
+        File::Script => "script\n",
+        File::Capture => "capture\n",
     }
 }

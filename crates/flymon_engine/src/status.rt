@@ -9,6 +9,8 @@ pub enum Status {
     Done,
     /// The words are no form of the command line.
     Usage,
+    /// The profile is at fault.
+    BadProfile,
     /// A line of the script is at fault, or the script is too long.
     BadScript,
     /// The capture's header is bad, or the next packet that a command asks for is not a whole record.
@@ -21,8 +23,6 @@ pub enum Status {
     DeviceFault,
     /// There was no memory for the run.
     Memory,
-    /// The words or the script ask for what is not built.
-    Unbuilt,
 }
 
 impl Status {
@@ -33,13 +33,13 @@ impl Status {
         match self {
             Status::Done => 0,
             Status::Usage => 2,
+            Status::BadProfile => 3,
             Status::BadScript => 4,
             Status::BadCapture => 5,
             Status::InputFault => 6,
             Status::OutputFault => 7,
             Status::DeviceFault => 8,
             Status::Memory => 9,
-            Status::Unbuilt => 10,
         }
     }
 }

@@ -1,33 +1,27 @@
 //! The top call: all that the program does.
-ghost use Rattle.std.specs.Prelude.{◌≡◌, Some, IfErr};
+ghost use Rattle.std.specs.Prelude.{◌≡◌, ◌↔◌, true, false, None};
 ghost use Rattle.outside.specs.Faults.{Rose};
-ghost use Rattle.hash_units.specs.Keys.{standard_key};
-ghost use Rattle.flymon_engine.specs.Words.{form_of, texts_of};
-ghost use Rattle.flymon_engine.specs.Opening.{HasInputCause};
-ghost use Rattle.flymon_engine.specs.Endings.{IsCarryStop};
-ghost use Rattle.flymon_engine.specs.Views.{expected_view};
-ghost use Rattle.flymon_engine.specs.Expected.{expected_for};
-ghost use Rattle.flymon_engine.specs.Clauses.{status_in, StopsAs, IsVerdict, SendsText, MakesCalls, LaysOut, IsInPlace, KeepsNames, SendsReport};
+ghost use Rattle.outside.specs.Told.{Stays};
+ghost use Rattle.fm_io.specs.Slots.{SlotStays};
+ghost use Rattle.flymon_engine.specs.Words.{Wrong, Replay, form_of, texts_of};
+ghost use Rattle.flymon_engine.specs.Moves.{NoCalls};
+ghost use Rattle.flymon_engine.specs.Opening.{is_standard, StraysStay};
+ghost use Rattle.flymon_engine.specs.Endings.{Seen, Promises, Ran};
+ghost use Rattle.flymon_engine.specs.Clauses.{names_profile, HasBadProfile, HasBadScript, IsDamaged, GoesAll, FailsInPlace, HasShaped, FailsDevice, IsEarly, FailsByName, SendsItsMessage};
 
 use crate::carry::carry_all;
-use crate::live::default_shape;
-use crate::opening::{Opened, open};
+use crate::machine::{Machine, StartFail};
+use crate::opening::{Opened, open_files};
 use crate::report::report;
 use crate::status::Status;
-use crate::stop::{Stop, ending};
-use crate::task::LiveTask;
+use crate::stop::{Refusal, Stop, ending, status_of};
+use crate::words::{Names, names_of};
 use fm_io::{Files, Sink};
-use hash_units::standard;
-use readout::Readout;
-use reg_file::{RegFile, ShapeFail};
+use reg_file::RegFile;
 use std::alloc::Global;
 
-/// Carries out what the words of the command line ask for.
-///
-/// The words are those behind the program's own name. The one task of a script has row i at the
-/// head of array i of 9 arrays of 1,024 registers, and its hash is under the standard key. A failed
-/// write to `err` changes no status.
-pub fn run<F: Files, R: RegFile, O: Sink, E: Sink>(
+/// Carries out what the words of the command line ask for, on this machine.
+pub(crate) fn run_on<F: Files, M: Machine, R: RegFile, O: Sink, E: Sink>(
     alloc: Global,
     words: &[String],
     files: &mut F,
@@ -35,96 +29,111 @@ pub fn run<F: Files, R: RegFile, O: Sink, E: Sink>(
     out: &mut O,
     err: &mut E,
 ) -> Status
-    ensures verdict { IsVerdict (expected_for (form_of (texts_of words.now)) (F.directory files.new) (F.slots files.new)) result }
-    ensures place { IsInPlace (form_of (texts_of words.now)) (F.directory files.new) (F.slots files.new) (F.last files.new) result }
+    ensures ran {
+        let before : Seen = record { files = F.faults files.old; last = F.last files.old; strays = F.strays files.old; directory = F.directory files.old; slots = F.slots files.old;
+            regs = R.faults regs.old; dims = R.dims regs.old; cells = R.contents regs.old; calls = R.calls regs.old; out = O.faults out.old; sent = O.sent out.old } in
+        let after : Seen = record { files = F.faults files.new; last = F.last files.new; strays = F.strays files.new; directory = F.directory files.new; slots = F.slots files.new;
+            regs = R.faults regs.new; dims = R.dims regs.new; cells = R.contents regs.new; calls = R.calls regs.new; out = O.faults out.new; sent = O.sent out.new } in
+        Ran M.rules M.lays (form_of (texts_of words.now)) result before after (E.faults err.old) (E.faults err.new) (E.sent err.old) (E.sent err.new) }
 
-    // what was written
-    ensures text { SendsText standard_key (expected_for (form_of (texts_of words.now)) (F.directory files.new) (F.slots files.new))
-        (R.contents regs.new) (O.sent out.old) result (O.sent out.new) }
-    ensures message { SendsReport (expected_for (form_of (texts_of words.now)) (F.directory files.new) (F.slots files.new))
-        (F.last files.new) result (E.faults err.old) (E.faults err.new) (E.sent err.old) (E.sent err.new) }
+    // what the words and texts determine
+    ensures usage { (result ≡ Status.Usage) ↔ (form_of (texts_of words.now) ≡ Wrong) }
+    ensures bad_profile { result ≡ Status.BadProfile → HasBadProfile (form_of (texts_of words.now)) (F.directory files.new) (F.slots files.new) }
+    ensures bad_script { result ≡ Status.BadScript → HasBadScript (form_of (texts_of words.now)) (F.directory files.new) (F.slots files.new) }
+    ensures bad_capture {
+        let before : Seen = record { files = F.faults files.old; last = F.last files.old; strays = F.strays files.old; directory = F.directory files.old; slots = F.slots files.old;
+            regs = R.faults regs.old; dims = R.dims regs.old; cells = R.contents regs.old; calls = R.calls regs.old; out = O.faults out.old; sent = O.sent out.old } in
+        let after : Seen = record { files = F.faults files.new; last = F.last files.new; strays = F.strays files.new; directory = F.directory files.new; slots = F.slots files.new;
+            regs = R.faults regs.new; dims = R.dims regs.new; cells = R.contents regs.new; calls = R.calls regs.new; out = O.faults out.new; sent = O.sent out.new } in
+        result ≡ Status.BadCapture → IsDamaged M.rules M.lays (form_of (texts_of words.now)) before after }
+    ensures done {
+        let before : Seen = record { files = F.faults files.old; last = F.last files.old; strays = F.strays files.old; directory = F.directory files.old; slots = F.slots files.old;
+            regs = R.faults regs.old; dims = R.dims regs.old; cells = R.contents regs.old; calls = R.calls regs.old; out = O.faults out.old; sent = O.sent out.old } in
+        let after : Seen = record { files = F.faults files.new; last = F.last files.new; strays = F.strays files.new; directory = F.directory files.new; slots = F.slots files.new;
+            regs = R.faults regs.new; dims = R.dims regs.new; cells = R.contents regs.new; calls = R.calls regs.new; out = O.faults out.new; sent = O.sent out.new } in
+        result ≡ Status.Done → GoesAll M.rules M.lays (form_of (texts_of words.now)) None before after }
 
-    // what the registers were asked and hold
-    ensures calls { MakesCalls standard_key (expected_for (form_of (texts_of words.now)) (F.directory files.new) (F.slots files.new))
-        (R.calls regs.old) result (R.calls regs.new) }
-    ensures registers { LaysOut standard_key (expected_for (form_of (texts_of words.now)) (F.directory files.new) (F.slots files.new))
-        result (R.contents regs.new) }
+    // each fault has its cause and its place
+    ensures input { result ≡ Status.InputFault → Rose (F.faults files.old) (F.faults files.new)
+        × FailsInPlace (form_of (texts_of words.now)) (F.directory files.new) (F.slots files.new) (F.last files.new) }
+    ensures output {
+        let before : Seen = record { files = F.faults files.old; last = F.last files.old; strays = F.strays files.old; directory = F.directory files.old; slots = F.slots files.old;
+            regs = R.faults regs.old; dims = R.dims regs.old; cells = R.contents regs.old; calls = R.calls regs.old; out = O.faults out.old; sent = O.sent out.old } in
+        let after : Seen = record { files = F.faults files.new; last = F.last files.new; strays = F.strays files.new; directory = F.directory files.new; slots = F.slots files.new;
+            regs = R.faults regs.new; dims = R.dims regs.new; cells = R.contents regs.new; calls = R.calls regs.new; out = O.faults out.new; sent = O.sent out.new } in
+        result ≡ Status.OutputFault → Rose (O.faults out.old) (O.faults out.new) × HasShaped (form_of (texts_of words.now)) after }
+    ensures device {
+        let before : Seen = record { files = F.faults files.old; last = F.last files.old; strays = F.strays files.old; directory = F.directory files.old; slots = F.slots files.old;
+            regs = R.faults regs.old; dims = R.dims regs.old; cells = R.contents regs.old; calls = R.calls regs.old; out = O.faults out.old; sent = O.sent out.old } in
+        let after : Seen = record { files = F.faults files.new; last = F.last files.new; strays = F.strays files.new; directory = F.directory files.new; slots = F.slots files.new;
+            regs = R.faults regs.new; dims = R.dims regs.new; cells = R.contents regs.new; calls = R.calls regs.new; out = O.faults out.new; sent = O.sent out.new } in
+        result ≡ Status.DeviceFault → Rose (R.faults regs.old) (R.faults regs.new) × FailsDevice (form_of (texts_of words.now)) after }
+    ensures nothing { IsEarly result → Stays (O.sent out.old) (O.sent out.new) × NoCalls (R.calls regs.old) (R.calls regs.new) }
 
-    // each fault has its cause
-    ensures input { result ≡ Status.InputFault → Rose (F.faults files.old) (F.faults files.new) }
-    ensures output { result ≡ Status.OutputFault → Rose (O.faults out.old) (O.faults out.new) }
-    ensures device { result ≡ Status.DeviceFault → Rose (R.faults regs.old) (R.faults regs.new) }
-    ensures names { KeepsNames (form_of (texts_of words.now)) (F.directory files.new).names (F.last files.new) result (F.strays files.old) (F.strays files.new) }
+    // which files were attached
+    ensures standard { names_profile (form_of (texts_of words.now)) ≡ false → SlotStays (F.slots files.old).profile (F.slots files.new).profile }
+    ensures names { (result ≡ Status.InputFault → ⊥) → StraysStay (F.directory files.new) (F.strays files.old) (F.strays files.new) }
+    ensures stray { result ≡ Status.InputFault → FailsByName (form_of (texts_of words.now)) (F.directory files.new) (F.last files.new) (F.strays files.old) (F.strays files.new) }
+    ensures message { SendsItsMessage result (E.faults err.old) (E.faults err.new) (E.sent err.old) (E.sent err.new) }
 {
-    match execute(alloc, words, files, regs, out) {
-        Ok(()) => Status::Done,
-        Err(stop) => {
-            report(stop, err);
-            stop.status()
-        }
-    }
+    let ended = execute::<F, M, R, O>(alloc, words, files, regs, out);
+    report(ended, err);
+    status_of(ended)
 }
 
-/// The opening, and then the script.
-fn execute<F: Files, R: RegFile, O: Sink>(
+/// The words, and then what they ask for.
+fn execute<F: Files, M: Machine, R: RegFile, O: Sink>(
     alloc: Global,
     words: &[String],
     files: &mut F,
     regs: &mut R,
     out: &mut O,
 ) -> Result<(), Stop>
-    ensures verdict { IsVerdict (expected_for (form_of (texts_of words.now)) (F.directory files.new) (F.slots files.new)) (status_in result) }
-    ensures place { IsInPlace (form_of (texts_of words.now)) (F.directory files.new) (F.slots files.new) (F.last files.new) (status_in result) }
-    ensures text { SendsText standard_key (expected_for (form_of (texts_of words.now)) (F.directory files.new) (F.slots files.new))
-        (R.contents regs.new) (O.sent out.old) (status_in result) (O.sent out.new) }
-    ensures calls { MakesCalls standard_key (expected_for (form_of (texts_of words.now)) (F.directory files.new) (F.slots files.new))
-        (R.calls regs.old) (status_in result) (R.calls regs.new) }
-    ensures registers { LaysOut standard_key (expected_for (form_of (texts_of words.now)) (F.directory files.new) (F.slots files.new))
-        (status_in result) (R.contents regs.new) }
-    ensures damage { StopsAs (expected_for (form_of (texts_of words.now)) (F.directory files.new) (F.slots files.new)) result }
-    ensures input { IfErr result (HasInputCause (F.faults files.old) (F.faults files.new) (F.last files.new)) }
-    ensures output { status_in result ≡ Status.OutputFault → Rose (O.faults out.old) (O.faults out.new) }
-    ensures device { status_in result ≡ Status.DeviceFault → Rose (R.faults regs.old) (R.faults regs.new) }
-    ensures names { KeepsNames (form_of (texts_of words.now)) (F.directory files.new).names (F.last files.new) (status_in result) (F.strays files.old) (F.strays files.new) }
+    ensures promises {
+        let before : Seen = record { files = F.faults files.old; last = F.last files.old; strays = F.strays files.old; directory = F.directory files.old; slots = F.slots files.old;
+            regs = R.faults regs.old; dims = R.dims regs.old; cells = R.contents regs.old; calls = R.calls regs.old; out = O.faults out.old; sent = O.sent out.old } in
+        let after : Seen = record { files = F.faults files.new; last = F.last files.new; strays = F.strays files.new; directory = F.directory files.new; slots = F.slots files.new;
+            regs = R.faults regs.new; dims = R.dims regs.new; cells = R.contents regs.new; calls = R.calls regs.new; out = O.faults out.new; sent = O.sent out.new } in
+        Promises M.rules M.lays (form_of (texts_of words.now)) result before after }
+    ensures standard { names_profile (form_of (texts_of words.now)) ≡ false → SlotStays (F.slots files.old).profile (F.slots files.new).profile }
 {
-    let opened = open(alloc, words, files)?;
-    carry(alloc, &opened, regs, out)
+    match names_of(words) {
+        Some(names) => replay::<F, M, R, O>(alloc, names, files, regs, out),
+        None => Err(Stop::Opening(Refusal::Usage)),
+    }
 }
 
-/// Shapes the registers, and carries out the script on them.
-fn carry<R: RegFile, O: Sink>(
+/// The opening, and then the commands.
+fn replay<F: Files, M: Machine, R: RegFile, O: Sink>(
     alloc: Global,
-    opened: &Opened,
+    names: Names<'_>,
+    files: &mut F,
     regs: &mut R,
     out: &mut O,
 ) -> Result<(), Stop>
-    ensures stop { IfErr result IsCarryStop }
-    ensures verdict { IsVerdict (Some (expected_view opened.now)) (status_in result) }
-    ensures damage { StopsAs (Some (expected_view opened.now)) result }
-    ensures text { SendsText standard_key (Some (expected_view opened.now)) (R.contents regs.new) (O.sent out.old) (status_in result) (O.sent out.new) }
-    ensures calls { MakesCalls standard_key (Some (expected_view opened.now)) (R.calls regs.old) (status_in result) (R.calls regs.new) }
-    ensures registers { LaysOut standard_key (Some (expected_view opened.now)) (status_in result) (R.contents regs.new) }
-    ensures output { status_in result ≡ Status.OutputFault → Rose (O.faults out.old) (O.faults out.new) }
-    ensures device { status_in result ≡ Status.DeviceFault → Rose (R.faults regs.old) (R.faults regs.new) }
+    ensures promises {
+        let before : Seen = record { files = F.faults files.old; last = F.last files.old; strays = F.strays files.old; directory = F.directory files.old; slots = F.slots files.old;
+            regs = R.faults regs.old; dims = R.dims regs.old; cells = R.contents regs.old; calls = R.calls regs.old; out = O.faults out.old; sent = O.sent out.old } in
+        let after : Seen = record { files = F.faults files.new; last = F.last files.new; strays = F.strays files.new; directory = F.directory files.new; slots = F.slots files.new;
+            regs = R.faults regs.new; dims = R.dims regs.new; cells = R.contents regs.new; calls = R.calls regs.new; out = O.faults out.new; sent = O.sent out.new } in
+        Promises M.rules M.lays (Replay names.entry.profile.now names.entry.script.now names.entry.capture.now) result before after }
+    ensures standard { is_standard names.entry.profile.now ≡ true → SlotStays (F.slots files.old).profile (F.slots files.new).profile }
 {
-    let shape = default_shape();
-    let Ok(mut reader) = Readout::new(alloc, shape.greatest_bits()) else {
-        return Err(Stop::Memory);
+    let opened = match open_files(alloc, names, files) {
+        Ok(opened) => opened,
+        Err(refusal) => return Err(Stop::Opening(refusal)),
     };
-    match regs.shape(alloc, shape.arrays(), shape.greatest_bits()) {
-        Ok(()) => {}
-        Err(ShapeFail::Memory) => return Err(Stop::Memory),
-        Err(ShapeFail::Device) => return Err(Stop::Device),
-    }
-    let session = &opened.session;
-    let live = LiveTask::new(standard(), session.task, session.bits);
-    let carried = carry_all(
-        &live,
-        session.behind(),
-        &opened.frames,
-        &mut reader,
-        regs,
-        out,
-    );
+    let Opened {
+        profile,
+        commands,
+        mut capture,
+    } = opened;
+    let mut machine = match M::start(alloc, &profile, regs) {
+        Ok(machine) => machine,
+        Err(StartFail::Memory) => return Err(Stop::Opening(Refusal::Memory)),
+        Err(StartFail::Device) => return Err(Stop::Opening(Refusal::Device)),
+    };
+    let carried = carry_all(&commands, &mut capture, files, &mut machine, regs, out);
+    machine.finish(regs);
     ending(carried)
 }

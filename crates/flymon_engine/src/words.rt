@@ -1,7 +1,7 @@
 //! The words of the command line.
 ghost use Rattle.std.specs.Prelude.{◌≡◌};
 ghost use Rattle.flymon_engine.specs.Words.{form_of, texts_of};
-ghost use Rattle.flymon_engine.specs.Views.{form_view};
+ghost use Rattle.flymon_engine.specs.Opening.{form_view};
 
 /// The three names of `replay PROFILE SCRIPT CAPTURE`.
 #[derive(Clone, Copy)]

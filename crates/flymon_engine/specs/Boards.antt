@@ -1,0 +1,46 @@
+-- The live tasks of a machine, with their packets, and what becomes of them.
+use Rattle.std.specs.Prelude.{List, [], ℕ}
+use Rattle.reg_file.specs.declared.traits.Call.{Call}
+use Rattle.pkt_headers.specs.declared.packets.Packet.{Packet}
+use Rattle.switch_model.specs.Records.{Record}
+use Rattle.sw_profile.specs.declared.profiles.Profile.{Profile}
+use Rattle.flymon_engine.specs.declared.work.Change.{Change}
+use Rattle.readout.specs.declared.requests.Request.{Request}
+
+-- the live tasks, and the profile of the switch that they stand on
+pub record Board : Type 0 where
+  pub profile : Profile
+  pub records : List Record
+
+abbrev pub no_tasks : Profile → Board
+no_tasks profile = record { profile = profile; records = [] }
+
+-- what a change or a request comes to if no call of the outside fails, and the lines that say it
+pub data Verdict : Type 0 where
+  Accepted : (lines : List ℕ) → Verdict
+  Refused : (lines : List ℕ) → Verdict
+
+abbrev pub lines_in : Verdict → List ℕ
+lines_in (Accepted lines) = lines
+lines_in (Refused lines) = lines
+
+abbrev pub IsAccepted : Verdict → Type 0
+IsAccepted (Accepted lines) = Unit {0}
+IsAccepted (Refused lines) = ⊥
+
+-- a next board, and the operations that lead there
+pub record Move : Type 0 where
+  pub board : Board
+  pub calls : List Call
+
+-- What packets, changes and questions come to. A change has so many parts; where the device refuses it behind some of
+-- them, but not behind all, `spoil` is what they leave. At its end a run finishes what is under way.
+pub record Rules : Type 0 where
+  pub pass : Board → Packet → Move
+  pub verdict : Board → Change → Verdict
+  pub change : Board → Change → Move
+  pub parts : Board → Change → ℕ
+  pub spoil : Board → Change → ℕ → Move
+  pub answer : Board → Request → Verdict
+  pub ask : Board → Request → Move
+  pub finish : Board → Move

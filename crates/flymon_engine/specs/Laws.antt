@@ -1,0 +1,63 @@
+-- What is true of runs.
+use Rattle.std.specs.Prelude.{◌≡◌, ℕ, Bool, true, List, [], ◌∷◌, ◌++◌, map, take, filter, Result}
+use Rattle.std.specs.Str.{bytes_eq}
+use Rattle.readout.specs.declared.requests.Ask as asks
+use Rattle.readout.specs.declared.requests.Request.TheVariants.{Task}
+use Rattle.sw_profile.specs.declared.profiles.Profile.{Profile}
+use Rattle.switch_model.specs.Histories.{Event, Passes, Changes, accepted, alone, part_of, name_in}
+use Rattle.flymon_engine.specs.declared.work.Work.{Work}
+use Rattle.flymon_engine.specs.declared.work.Work.TheVariants.{Take, Change, Ask}
+use Rattle.flymon_engine.specs.declared.stop.Halt.{Halt}
+use Rattle.flymon_engine.specs.Arrivals.{Arrival, Left}
+use Rattle.flymon_engine.specs.Boards.{Board, Rules}
+use Rattle.flymon_engine.specs.ChangeLines.{change_of}
+use Rattle.flymon_engine.specs.Runs.{Run, taken_by, step, carried, lines_of}
+use Rattle.flymon_engine.specs.Stops.{Ends}
+use Rattle.flymon_engine.specs.Going.{AgreesBy}
+use Rattle.flymon_engine.specs.Endings.{beginning}
+use Rattle.flymon_engine.specs.Serial.{serial_rules}
+
+-- Where nothing fails a run ends as the whole script does, at its damage or without; a fault leaves a front of its text.
+abbrev pub EndsAsTheScript : Type 0
+EndsAsTheScript = (rules : Rules) (at : ℕ) (result : Result ℕ Halt) (start : Run) (works : List Work) (end : Run)
+    → Ends rules at result start works end → AgreesBy rules result start works end
+
+-- ---- isolation
+
+-- what becomes of the tasks in a command
+abbrev pub events_of : Run → Work → List Event
+events_of run (Take count) = map (λ (a : Arrival). Passes a.packet) (take (taken_by run (Take count)) run.left.list)
+events_of run (Change change) = Changes (change_of change) ∷ []
+events_of run (Ask request) = []
+
+-- and in several
+unfoldable pub history : Run → List Work → List Event
+history run [] = []
+history run (work ∷ works) = events_of run work ++ history (step serial_rules run work) works
+
+-- the packets, and the changes of one task
+abbrev pub is_own : List ℕ → Event → Bool
+is_own name (Passes packet) = true
+is_own name (Changes change) = bytes_eq (name_in change) name
+
+-- the accepted changes of a task, each behind the packets that came before it
+abbrev pub own_history : List ℕ → Profile → Run → List Work → List Event
+own_history name profile run works = filter (is_own name) (accepted profile.shape [] (history run works))
+
+-- after these commands a read-out of a task sends these lines
+abbrev pub lines_after : Profile → Left → List Work → List ℕ → asks.Ask → List ℕ
+lines_after profile left works name ask = lines_of serial_rules (carried serial_rules (beginning profile left) works) (Ask (Task name ask))
+
+-- After every run the sketch part of a task is the one that it has alone.
+abbrev pub CountsAlone : Type 0
+CountsAlone = (profile : Profile) (left : Left) (works : List Work) (name : List ℕ)
+    → part_of name (carried serial_rules (beginning profile left) works).board.records
+    ≡ alone name (own_history name profile (beginning profile left) works)
+
+-- Two runs of one hash key, of any shapes and scripts: where a task's own accepted changes are the same, each behind the same
+-- packets, its read-outs are the same, whatever stands beside it and wherever it stands.
+abbrev pub AnswersAlone : Type 0
+AnswersAlone = (one two : Profile) (left_one left_two : Left) (works_one works_two : List Work) (name : List ℕ) (ask : asks.Ask)
+    → one.key ≡ two.key
+    → own_history name one (beginning one left_one) works_one ≡ own_history name two (beginning two left_two) works_two
+    → lines_after one left_one works_one name ask ≡ lines_after two left_two works_two name ask

@@ -1,0 +1,19 @@
+//! What is true of runs. Each is the contract of an empty function.
+ghost use Rattle.flymon_engine.specs.Laws.{EndsAsTheScript, CountsAlone, AnswersAlone};
+
+/// Where nothing fails a run ends as the whole script does, at its damage or without; a fault
+/// leaves a front of its text.
+pub fn ends_as_the_script()
+    ensures { EndsAsTheScript }
+{}
+
+/// What a task has counted is what it counts alone.
+pub fn counts_alone()
+    ensures { CountsAlone }
+{}
+
+/// What a task answers is what it answers alone: on two switches of one hash key, wherever it
+/// stands and whatever stands beside it.
+pub fn answers_alone()
+    ensures { AnswersAlone }
+{}
