@@ -8,11 +8,19 @@ mod calls;
 #[cfg(test)]
 mod captures;
 #[cfg(test)]
+mod changes;
+#[cfg(test)]
 mod commands;
 #[cfg(test)]
 mod damage;
 #[cfg(test)]
 mod faults;
+#[cfg(test)]
+mod many;
+#[cfg(test)]
+mod placement;
+#[cfg(test)]
+mod profiles;
 #[cfg(test)]
 mod rows;
 #[cfg(test)]
