@@ -14,6 +14,8 @@ mod commands;
 #[cfg(test)]
 mod damage;
 #[cfg(test)]
+mod device;
+#[cfg(test)]
 mod faults;
 #[cfg(test)]
 mod many;
