@@ -1,11 +1,10 @@
 -- What the parts of tasks answer, and how a read-out ends.
-use Rattle.std.proofs.Common.{◌≡◌, ◌≢◌, ℕ, ◌^◌, ◌==◌, Bool, true, false, if◌then◌else◌, List, [], Option, None, Some, Result, Ok, Err, IfSome, IfOk, option_map, is_some, refl, ap, ap₂, sym, ◌∙◌, subst, cond}
+use Rattle.std.proofs.Common.{◌≡◌, ◌≢◌, ℕ, Bool, true, false, if◌then◌else◌, List, Option, None, Some, Result, Ok, Err, IfSome, IfOk, option_map, is_some, refl, ap, ap₂, sym, ◌∙◌, subst}
 use Rattle.std.specs.Str.{bytes_eq}
 use Rattle.std.specs.Prelude.{not, ◌&&◌}
 use Rattle.std.proofs.lemmas.Bool.{false≢true}
 use Rattle.std.proofs.lemmas.Slice.Eq.{bytes_eq-Decides}
 use Rattle.key_mask.specs.Masks.{mask_bytes_of}
-use Rattle.outside.specs.Told.{Stays}
 use Rattle.outside.specs.Sent.{Sends}
 use Rattle.outside.proofs.ToldLemmas.{stays_same}
 use Rattle.addr_translate.specs.Blocks.{Block}

@@ -1,11 +1,11 @@
 -- The tally of a row, one cell after the other.
-use Rattle.std.proofs.Common.{◌≡◌, ℕ, ◌+◌, ◌-◌, ◌*◌, ◌^◌, ◌<◌, ◌≤◌, ◌==◌, List, [], ◌++◌, length, take, Option, Result, None, Some, IfSome, refl, ap, ap₂, sym, ◌∙◌, subst, arith}
+use Rattle.std.proofs.Common.{◌≡◌, ℕ, ◌+◌, ◌-◌, ◌*◌, ◌^◌, ◌<◌, ◌≤◌, ◌==◌, List, [], length, take, Option, Result, None, Some, IfSome, refl, ap, ap₂, sym, ◌∙◌, subst, arith}
 use Rattle.std.specs.Result.{IsErr}
 use Rattle.std.proofs.lemmas.Bool.{cond_both}
 use Rattle.std.proofs.lemmas.List.{get_or-map, take_all}
 use Rattle.std.proofs.lemmas.Nat.{pow_pos, pow-add}
 use Rattle.outside.specs.Told.{Stays}
-use Rattle.outside.specs.Sent.{CameInPart, Sends}
+use Rattle.outside.specs.Sent.{Sends}
 use Rattle.outside.proofs.SentLemmas.{none_in_part}
 use Rattle.outside.proofs.ToldLemmas.{stays_same}
 use Rattle.reg_file.specs.Registers.{Contents}

@@ -1,13 +1,13 @@
 -- The lines of cells, one cell and one row after the other.
-use Rattle.std.proofs.Common.{◌≡◌, ℕ, ◌+◌, ◌^◌, ◌<◌, ◌≤◌, ◌==◌, true, List, [], ◌++◌, length, map, codes, Option, Result, Ok, Err, None, Some, IfSome, refl, ap, ap₂, sym, ◌∙◌, subst, arith, eq-eqb}
-use Rattle.std.specs.List.{flat_map, enumerate_from, range_with_len, slice_index_or}
+use Rattle.std.proofs.Common.{◌≡◌, ℕ, ◌+◌, ◌^◌, ◌<◌, ◌==◌, true, List, [], ◌++◌, length, codes, Option, Result, None, Some, IfSome, refl, ap, ap₂, sym, ◌∙◌, subst, arith, eq-eqb}
+use Rattle.std.specs.List.{flat_map, enumerate_from, slice_index_or}
 use Rattle.std.specs.Result.{IsErr}
 use Rattle.std.proofs.lemmas.List.{append-nil, length-map, get_or-map}
 use Rattle.std.proofs.lemmas.List.FromFn.{length-enumerate_from, get_or-enumerate_from, get_or-map-range_with_len, length-map-range_with_len}
 use Rattle.outside.specs.Told.{Stays}
-use Rattle.outside.specs.Sent.{CameSoFar, CameInFront, CameInPart, Sends}
+use Rattle.outside.specs.Sent.{CameSoFar, CameInFront, Sends}
 use Rattle.outside.proofs.ToldLemmas.{stays_same}
-use Rattle.outside.proofs.SentLemmas.{none_in_front, none_in_part}
+use Rattle.outside.proofs.SentLemmas.{none_in_front}
 use Rattle.reg_file.specs.Registers.{Contents, Dims}
 use Rattle.sketch_lower.specs.Operations.{start_of}
 use Rattle.readout.specs.declared.views.Placed.{Placed}

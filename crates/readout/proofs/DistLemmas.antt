@@ -21,8 +21,7 @@ use Rattle.readout.specs.declared.views.Placed.{Placed}
 use Rattle.readout.specs.declared.views.Side.TheVariants.{Live}
 use Rattle.readout.specs.PlacedTasks.{PlacedTask, place_at, live_bits, row_contents, rows_contents}
 use Rattle.readout.specs.Lines.{size_line, dist_lines}
-use Rattle.readout.specs.Outcomes.{Gathers}
-use Rattle.readout.proofs.PieceLemmas.{put_behind, room_put, front_of_more, gathers_at_err, sends_at_err, block_sent, block_cut}
+use Rattle.readout.proofs.PieceLemmas.{put_behind, sends_at_err, block_sent, block_cut}
 use Rattle.readout.proofs.CellLemmas.{told_more, told_all, told_then, length_row, row_at}
 use Rattle.readout.proofs.CardLemmas.{CellAt, row_whole, row_first}
 

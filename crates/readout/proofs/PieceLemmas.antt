@@ -1,14 +1,14 @@
 -- What was sent, with a piece that is still to be sent before the rest.
-use Rattle.std.proofs.Common.{◌≡◌, ℕ, zero, suc, ◌+◌, ◌<◌, ◌≤◌, List, [], ◌∷◌, ◌++◌, Option, Result, Ok, Err, length, take, drop, slice_index_or, refl, ◌∙◌, ap, sym, append_assoc, subst, arith, add-one}
+use Rattle.std.proofs.Common.{◌≡◌, ℕ, zero, suc, ◌+◌, ◌<◌, ◌≤◌, List, [], ◌∷◌, ◌++◌, Option, Result, Ok, Err, length, take, drop, slice_index_or, refl, ◌∙◌, ap, sym, append_assoc, subst, arith}
 use Rattle.std.specs.List.{flat_map}
 use Rattle.std.proofs.lemmas.List.{append-nil, take_all}
 use Rattle.std.specs.Result.{IsErr}
 use Rattle.std.proofs.lemmas.Bool.{false≢true}
 use Rattle.outside.specs.Faults.{HasCause}
-use Rattle.outside.specs.Told.{Stays, Grows}
+use Rattle.outside.specs.Told.{Grows}
 use Rattle.outside.specs.Sent.{CameSoFar, CameInFront, CameInPart, Sends}
 use Rattle.outside.proofs.ToldLemmas.{stays_same, grows_then}
-use Rattle.outside.proofs.SentLemmas.{none_came, none_in_front, part_came, front_came, front_of_part}
+use Rattle.outside.proofs.SentLemmas.{none_came, part_came, front_came}
 use Rattle.readout.specs.Outcomes.{Gathers}
 
 -- nothing yet

@@ -1,19 +1,19 @@
 -- Tasks found in a list, and what a fit task has.
-use Rattle.std.proofs.Common.{◌≡◌, ℕ, zero, suc, ◌^◌, ◌<◌, ◌≤◌, if◌then◌else◌, Bool, true, false, cond, not, nat_lt, nat_le, List, [], ◌∷◌, length, map, slice_index_or, Option, None, Some, option_map, is_some, unwrap_or, IfSome, refl, sym, ap, ◌∙◌, arith}
+use Rattle.std.proofs.Common.{◌≡◌, ℕ, zero, suc, ◌<◌, ◌≤◌, if◌then◌else◌, Bool, true, false, cond, not, nat_lt, nat_le, List, [], ◌∷◌, length, map, slice_index_or, Option, None, Some, option_map, IfSome, refl, sym, ap, ◌∙◌, arith}
 use Rattle.std.specs.List.{All, find, position, position_or_len, slice_get}
 use Rattle.std.proofs.lemmas.List.Elements.{All-head, All-tail}
 use Rattle.std.specs.Str.{bytes_eq}
 use Rattle.std.proofs.lemmas.List.Folds.{find_at}
 use Rattle.std.proofs.lemmas.Bool.{cond_both, false≢true}
 use Rattle.std.proofs.lemmas.Bool.Decides.{nat_tests}
-use Rattle.addr_translate.specs.Geometry.{Geometry, array_count}
+use Rattle.addr_translate.specs.Geometry.{array_count}
 use Rattle.sketch_defs.specs.declared.kinds.Kind.{Kind}
 use Rattle.sketch_defs.specs.declared.kinds.Kind.TheVariants.{Cms, SumaxSum, SumaxMax, Bloom, Mrac, Hll, FlagOr, FlagAnd}
 use Rattle.sketch_defs.specs.declared.tasks.TaskFault.{TaskFault}
 use Rattle.sketch_defs.specs.declared.tasks.TaskFault.TheVariants as faults
 use Rattle.sketch_defs.specs.Tasks.{Sketch, first_fault, allows_rows, most_rows}
 use Rattle.reg_file.specs.Registers.{Contents}
-use Rattle.readout.specs.PlacedTasks.{PlacedTask, View, task_in, place_in, placed_task_at, place_at, is_named, task_named, part_in, parts_in, live_bits, frozen_bits, IsPlaced, IsPlacedTask, IsFit, no_placed_task, no_place}
+use Rattle.readout.specs.PlacedTasks.{PlacedTask, View, task_in, place_in, is_named, task_named, part_in, parts_in, live_bits, frozen_bits, IsPlaced, IsPlacedTask, IsFit, no_placed_task, no_place}
 use Rattle.readout.specs.Answers.{part_named}
 use Rattle.readout.specs.Parts.{SketchPart}
 use Rattle.sketch_defs.proofs.NameLemmas.{both_true}

@@ -1,12 +1,12 @@
 -- The cells of a key, one row after the other.
-use Rattle.std.proofs.Common.{◌≡◌, ◌≢◌, ℕ, ◌+◌, ◌^◌, ◌<◌, List, [], ◌∷◌, ◌++◌, length, map, drop, slice_index, true, Ok, Option, Result, Some, IfSome, IfOk, refl, ap, ap₂, sym, ◌∙◌, subst, arith, append_assoc, add-one}
+use Rattle.std.proofs.Common.{◌≡◌, ◌≢◌, ℕ, ◌+◌, ◌^◌, ◌<◌, List, [], ◌∷◌, ◌++◌, length, map, drop, slice_index, true, Ok, Option, Result, Some, IfSome, IfOk, refl, ap, sym, ◌∙◌, subst, arith, append_assoc, add-one}
 use Rattle.std.specs.Result.{IsErr}
 use Rattle.std.specs.Str.{bytes_eq}
 use Rattle.std.proofs.Math.Seq.{drop-cons}
 use Rattle.std.proofs.lemmas.List.{append-nil, drop_all}
 use Rattle.std.proofs.lemmas.List.FromFn.{get_or-map-range_with_len}
 use Rattle.outside.specs.Told.{Stays}
-use Rattle.outside.specs.Sent.{CameInPart, Sends}
+use Rattle.outside.specs.Sent.{Sends}
 use Rattle.outside.proofs.SentLemmas.{none_in_part}
 use Rattle.outside.proofs.ToldLemmas.{stays_same}
 use Rattle.addr_translate.specs.Blocks.{index_of}

@@ -1,5 +1,5 @@
 -- The lines of rows and tasks, by their numbers.
-use Rattle.std.proofs.Common.{◌≡◌, ℕ, ◌<◌, ◌≤◌, List, [], ◌∷◌, ◌++◌, ◌==◌, true, false, nat_lt, length, take, drop, codes, Option, Result, Ok, Err, refl, ap, ap₂, sym, ◌∙◌, subst, arith, append_assoc}
+use Rattle.std.proofs.Common.{◌≡◌, ℕ, ◌<◌, ◌≤◌, List, [], ◌∷◌, ◌++◌, ◌==◌, true, false, nat_lt, length, take, drop, codes, Option, Result, refl, ap, ap₂, sym, ◌∙◌, subst, arith, append_assoc}
 use Rattle.std.specs.List.{flat_map, enumerate_from, list_all, range_with_len, slice_index_or}
 use Rattle.std.specs.Result.{IsErr}
 use Rattle.std.proofs.lemmas.List.{take_all, length-drop}
@@ -16,7 +16,7 @@ use Rattle.std.specs.Fmt.{decimal}
 use Rattle.addr_translate.specs.Geometry.{Geometry, array_count}
 use Rattle.task_lang.specs.Printing.{task_text}
 use Rattle.readout.specs.declared.views.Placed.{Placed}
-use Rattle.readout.specs.PlacedTasks.{PlacedTask, View, no_place, no_placed_task, place_at, task_in}
+use Rattle.readout.specs.PlacedTasks.{PlacedTask, View, no_place, place_at}
 use Rattle.readout.specs.Lines.{place_line, task_lines, show_lines, told_bytes, group_line, array_line, stat_lines}
 use Rattle.readout.specs.Outcomes.{Gathers}
 use Rattle.readout.proofs.PieceLemmas.{room_put, came_then, gathers_then, block_sent, block_cut, sends_at_err}

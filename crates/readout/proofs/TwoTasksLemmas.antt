@@ -1,7 +1,6 @@
 -- A view of two tasks reads registers that there are, and it is fit.
-use Rattle.std.proofs.Common.{◌≡◌, ℕ, ◌==◌, if◌then◌else◌, zero, suc, ◌+◌, ◌^◌, ◌<◌, ◌≤◌, true, false, cond, is_some, List, [], ◌∷◌, length, map, max, get_or, slice_index_or, Option, None, Some, option_map, unwrap_or, IfSome, refl, subst, sym, arith}
-use Rattle.std.specs.List.{All, fold}
-use Rattle.std.proofs.lemmas.List.Elements.{All-head, All-tail}
+use Rattle.std.proofs.Common.{◌≡◌, ℕ, ◌==◌, if◌then◌else◌, zero, suc, ◌+◌, ◌^◌, ◌<◌, ◌≤◌, true, is_some, [], ◌∷◌, length, slice_index_or, Option, None, Some, option_map, unwrap_or, IfSome, refl, subst, sym, arith}
+use Rattle.std.specs.List.{All}
 use Rattle.std.proofs.lemmas.Bool.{false≢true}
 use Rattle.std.proofs.Math.Pow.{pow_mono}
 use Rattle.addr_translate.specs.Blocks.{Block}
@@ -16,7 +15,7 @@ use Rattle.sketch_defs.specs.Tasks.{Sketch}
 use Rattle.readout.specs.declared.views.Placed.{Placed}
 use Rattle.readout.specs.declared.views.Side.{Side}
 use Rattle.readout.specs.declared.views.Side.TheVariants.{Live, Frozen}
-use Rattle.readout.specs.PlacedTasks.{PlacedTask, View, task_in, place_in, block_of, live_bits, HasSide, IsFit, IsPlaced, IsPlacedTask, IsShaped, LiesIn}
+use Rattle.readout.specs.PlacedTasks.{View, task_in, place_in, block_of, live_bits, HasSide, IsFit, IsPlaced, IsPlacedTask, IsShaped, LiesIn}
 use Rattle.readout.proofs.PlacedTaskLemmas.{row_placed}
 
 frozen_inside : (geometry : Geometry) (array : ℕ) (frozen : Option Block) (region : Block) (index : ℕ)

@@ -1,11 +1,13 @@
 -- Worked lines.
 use Rattle.std.specs.Prelude.{◌≡◌, ℕ, List, [], ◌∷◌, codes, replicate, None, Some, Ok, Err}
 use Rattle.std.specs.Fmt.{digits}
-use Rattle.std.specs.List.{flat_map}
 use Rattle.std.proofs.Common.{refl}
 use Rattle.addr_translate.specs.Geometry.{equal_geometry, groups_ended}
 use Rattle.group_keys.specs.declared.uses.KeyUse.{KeyUse}
 use Rattle.group_keys.specs.declared.uses.KeyUse.TheVariants.{Single, Pair}
+use Rattle.task_filters.specs.Printing.{filter_text}
+use Rattle.task_lang.specs.Printing.{task_text}
+use Rattle.key_mask.specs.Items.{items_text, with_field}
 use Rattle.hex.specs.Hex.{encode_with}
 use Rattle.key_mask.specs.Masks.{mask_bytes_of, no_lengths}
 use Rattle.pkt_headers.specs.declared.packets.Attr.TheVariants as attrs
@@ -19,7 +21,7 @@ use Rattle.readout.specs.declared.views.Placed.{Placed}
 use Rattle.readout.specs.declared.views.Side.TheVariants.{Live, Frozen}
 use Rattle.readout.specs.Parts.{SketchPart}
 use Rattle.readout.specs.PlacedTasks.{View}
-use Rattle.readout.specs.Lines.{cells_lines, head_line, cell_line, query_line, size_line, dist_lines, card_line, place_line, group_line, array_line, stat_lines}
+use Rattle.readout.specs.Lines.{cells_lines, head_line, cell_line, query_line, size_line, dist_lines, card_line, place_line, group_line, array_line, show_lines, stat_lines, task_lines}
 use Rattle.readout.specs.Answers.{lines_of_cells, refused_line}
 
 block : cells_lines Live (codes "b") 4 0 ((0 ∷ 0 ∷ 1024 ∷ 0 ∷ []) ∷ (131072 ∷ 0 ∷ 0 ∷ 0 ∷ []) ∷ [])
@@ -114,3 +116,28 @@ stat_used : stat_lines (record unused { mask = λ group unit. Some source; free 
     ≡ codes "stat groups 1 arrays 1\ngroup 0 units ffffffff000000000000000000000000\narray 0 free 16 largest 8 live 2\nend\n"
 unfolding unused source stat_lines group_line array_line mask_bytes_of encode_with digits
 stat_used = refl
+
+-- ---- all tasks of a group of three arrays and two units: of one of them the key is that of both units
+
+counted : List ℕ → List ℕ → Sketch
+counted name key =
+    record { name = name; kind = Cms; rows = 1; key = key; attr = attrs.Packets; filter = record { value = replicate 48 0; mask = no_lengths }; size = 32 }
+
+row_on : ℕ → KeyUse → Placed
+row_on array keys = record { array = array; region = record { base = 0; bits = 5 }; keys = keys; frozen = None }
+
+two_tasks : View
+two_tasks = record {
+  geometry = equal_geometry 1 (record { cmus = 3; units = 2; bits = 5 }) 5;
+  tasks = (record { task = counted (codes "b") (0 ∷ 32 ∷ replicate 9 0); places = row_on 1 (Single 1) ∷ [] })
+      ∷ (record { task = counted (codes "c") source; places = row_on 2 (Pair 0 1) ∷ [] }) ∷ [];
+  mask = λ group unit. None;
+  free = λ array. 0;
+  largest = λ array. 0;
+  rows = λ array. 1;
+}
+
+show : show_lines two_tasks
+    ≡ codes "tasks 2\ntask b cms 1 key=dst_ip attr=packets filter=all memory=32\nrow 0 group 0 cmu 1 base 0 size 32 keys 1\ntask c cms 1 key=src_ip attr=packets filter=all memory=32\nrow 0 group 0 cmu 2 base 0 size 32 keys 0+1\nend\n"
+unfolding two_tasks counted row_on source show_lines task_lines place_line task_text filter_text items_text with_field groups_ended digits
+show = refl

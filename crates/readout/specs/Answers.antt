@@ -1,7 +1,6 @@
 -- What a read-out answers: lines, or why there are none. Lines of tasks are those of their parts, whatever stands where.
 use Rattle.std.specs.Prelude.{ℕ, ◌^◌, Bool, true, false, if◌then◌else◌, List, ◌++◌, codes, Option, None, Some, Result, Ok, Err}
 use Rattle.std.specs.List.{find}
-use Rattle.std.specs.Option.{ok_or}
 use Rattle.std.specs.Str.{bytes_eq}
 use Rattle.task_filters.specs.Filters.{Pattern}
 use Rattle.sketch_defs.specs.declared.answers.Reply.{Reply}

@@ -1,5 +1,5 @@
 -- Calls that only read, one after the other.
-use Rattle.std.proofs.Common.{◌≡◌, ◌≤◌, refl, ◌∙◌, arith}
+use Rattle.std.proofs.Common.{refl, ◌∙◌, arith}
 use Rattle.outside.proofs.ToldLemmas.{stays_same, stays_then}
 use Rattle.reg_file.specs.declared.traits.RegFile.{Ghosts}
 use Rattle.reg_file.specs.Reads.{OnlyReads}

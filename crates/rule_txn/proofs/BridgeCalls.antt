@@ -1,34 +1,29 @@
 -- The calls of a pipe whose tables and units are those of tasks are the calls of the tasks' rows.
-use Rattle.std.proofs.Common.{◌≡◌, ◌≢◌, ℕ, zero, suc, ◌+◌, ◌<◌, ◌≤◌, ◌==◌, ◌&&◌, Bool, true, false, cond, List, [], ◌∷◌, length, get_or, refl, ap, ap₂, sym, ◌∙◌, subst, arith, map, filter, bit_xor, inl, inr}
+use Rattle.std.proofs.Common.{◌≡◌, ℕ, ◌+◌, ◌<◌, ◌≤◌, ◌==◌, ◌&&◌, Bool, true, false, List, [], ◌∷◌, length, get_or, refl, ap, ap₂, sym, ◌∙◌, subst, arith, map, filter, bit_xor, inl, inr}
 use Rattle.std.specs.Prelude.{◌⊎◌, slice_index, Option, None, Some}
-use Rattle.std.specs.List.{All, Contains, find, flat_map, range_with_len}
-use Rattle.std.proofs.lemmas.Bool.{false≢true, cases_lt, eqb-false}
+use Rattle.std.specs.List.{All, Contains, find}
+use Rattle.std.proofs.lemmas.Bool.{cases_lt}
 use Rattle.std.proofs.lemmas.Bool.Decides.{nat_tests}
 use Rattle.std.proofs.lemmas.List.{get_or_past}
 use Rattle.std.proofs.lemmas.List.Elements.{All-head, All-tail, All-weaker, All-get_or, All-contains}
-use Rattle.addr_translate.specs.Blocks.{Block, index_of}
-use Rattle.addr_translate.specs.Geometry.{Geometry, IsGeometry, IsGroup, array_count, group_in, group_number, no_group}
-use Rattle.key_mask.specs.Bytes.{and_bytes}
-use Rattle.key_mask.specs.Masks.{mask_bytes_of}
-use Rattle.hash_units.specs.Toeplitz.{hash_of, row_hash_of}
+use Rattle.addr_translate.specs.Blocks.{index_of}
+use Rattle.addr_translate.specs.Geometry.{Geometry, IsGroup, array_count, group_in, group_number, no_group}
+use Rattle.hash_units.specs.Toeplitz.{row_hash_of}
 use Rattle.pkt_headers.specs.declared.packets.Packet.{Packet}
 use Rattle.stateful_ops.specs.declared.ops.Op.{Op}
-use Rattle.stateful_ops.specs.Ops.{register_max}
 use Rattle.reg_file.specs.declared.traits.Call.{Call}
 use Rattle.reg_file.specs.Registers.{Contents}
-use Rattle.reg_file.specs.Calls.{carry_in}
 use Rattle.group_keys.specs.declared.uses.KeyUse.{KeyUse}
 use Rattle.group_keys.specs.declared.uses.KeyUse.TheVariants.{Single, Pair}
 use Rattle.group_keys.specs.Units.{UsedUnit, unit_at}
 use Rattle.group_keys.specs.Units as units
-use Rattle.match_table.specs.declared.entries.Entry.{Entry}
 use Rattle.match_table.specs.declared.operations.Second.{Second}
 use Rattle.match_table.specs.declared.operations.Second.TheVariants.{Top, Carry}
 use Rattle.match_table.specs.Tables.{EntryTable, takes}
 use Rattle.match_table.specs.Operations.{operation_by}
 use Rattle.cmu_stage.specs.Keys.{unit_key, keys_of, key_in}
 use Rattle.cmu_stage.specs.Passing.{carry_for, entry_hash, call_at, call_by}
-use Rattle.pipe_core.specs.Rules.{Rules, IsPipe, table_at, entries_on, units_in, first_in, cmus_in}
+use Rattle.pipe_core.specs.Rules.{Rules, IsPipe, entries_on, units_in, first_in, cmus_in}
 use Rattle.pipe_core.specs.Groups.{keys_in}
 use Rattle.pipe_core.specs.Flow.{calls_over}
 use Rattle.pipe_core.specs.Bridge.{Blocks, AreBlocks, IsBound, HasBefore, block_calls}
@@ -37,20 +32,19 @@ use Rattle.pipe_core.proofs.FirstLemmas.{in_group}
 use Rattle.pipe_core.proofs.RangeLemmas.{flat_same}
 use Rattle.pipe_core.proofs.ModelLemmas.{calls_are_model}
 use Rattle.pipe_core.proofs.BlockLemmas.{is_model}
-use Rattle.sketch_defs.specs.Cells.{row_hash_at, key_hash}
-use Rattle.sketch_defs.specs.Tasks.{Sketch}
+use Rattle.sketch_defs.specs.Cells.{row_hash_at}
 use Rattle.task_filters.specs.Filters.{passes}
 use Rattle.switch_model.specs.Records.{Record, outlines}
-use Rattle.switch_model.specs.Sights.{GroupUse, all_spots, all_uses, rules_on, by_place, starts_before, units_on}
+use Rattle.switch_model.specs.Sights.{all_spots, all_uses, by_place, starts_before, units_on}
 use Rattle.switch_model.specs.Soundness.{Sound}
 use Rattle.switch_model.specs.Packets.{Stand, all_stands, Layout, takes_on, call_of, calls_on, calls_of}
 use Rattle.switch_model.proofs.StandLemmas.{IsStand, is_live, stands_are}
 use Rattle.switch_model.proofs.CallLemmas.{Takes}
 use Rattle.switch_model.proofs.CallLemmas as calls_in
 use Rattle.switch_model.proofs.BridgeLemmas.{entry_by, stands_on, rules_stand, one_takes, bound_of, HandsOn, IsBoundBy, bound_stands, operation_stands, addr_stands, KeyStands, KeyWhereLive, keys_stand, use_hash, unit_hash, hash_given, task_hash}
-use Rattle.rule_txn.specs.Switch.{placed_table, tables_for, table_for, groups_for}
+use Rattle.rule_txn.specs.Switch.{placed_table, tables_for, groups_for}
 use Rattle.rule_txn.proofs.Places.{at_range}
-use Rattle.rule_txn.proofs.Tables.{length-tables, table_is}
+use Rattle.rule_txn.proofs.Tables.{table_is}
 use Rattle.rule_txn.proofs.BridgeFinds.{filter_alike, filter_none, filter_mapped, same_found}
 
 -- tables and units of a pipe are those of these tasks, with their packets

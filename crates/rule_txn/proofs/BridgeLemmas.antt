@@ -1,7 +1,7 @@
 -- A packet that passes the pipe joins the tasks that the registers stand for.
-use Rattle.std.proofs.Common.{◌≡◌, ℕ, List, ◌++◌, refl, ap, sym, ◌∙◌, subst}
-use Rattle.std.specs.Prelude.{map, Option, None, Some}
-use Rattle.outside.specs.Told.{Told, Grows}
+use Rattle.std.proofs.Common.{◌≡◌, List, ap, sym, ◌∙◌, subst}
+use Rattle.std.specs.Prelude.{map, Option}
+use Rattle.outside.specs.Told.{Grows}
 use Rattle.outside.proofs.ToldLemmas.{told_weaker}
 use Rattle.pkt_headers.specs.declared.packets.Packet.{Packet}
 use Rattle.reg_file.specs.declared.traits.Call.{Call}
@@ -9,15 +9,15 @@ use Rattle.reg_file.specs.Registers.{Contents}
 use Rattle.reg_file.specs.Calls.{all_made, MakesOver}
 use Rattle.pipe_core.specs.Rules.{Rules, IsPipe, rules_of}
 use Rattle.pipe_core.specs.Flow.{calls_over}
-use Rattle.switch_model.specs.Records.{Record, Outline, outlines}
+use Rattle.switch_model.specs.Records.{Record, Outline}
 use Rattle.switch_model.specs.Sights.{all_spots, all_uses}
 use Rattle.switch_model.specs.Soundness.{Sound}
-use Rattle.switch_model.specs.Packets.{join, calls_of, Layout}
+use Rattle.switch_model.specs.Packets.{join, calls_of}
 use Rattle.switch_model.proofs.IsolationLemmas.{join_same}
 use Rattle.switch_model.proofs.CallLemmas.{packet_keeps_layout}
 use Rattle.rule_txn.specs.State.{State}
 use Rattle.rule_txn.specs.Switch.{SwitchState, Stands, placed_table, tables_for, groups_for}
-use Rattle.rule_txn.specs.Seen.{StandsFor, Passes, PassesOver}
+use Rattle.rule_txn.specs.Seen.{StandsFor, PassesOver}
 use Rattle.rule_txn.proofs.BridgeCalls.{RulesStand, packet_calls}
 
 -- what a switch shows, of its tasks and what stands in its arrays

@@ -2,6 +2,7 @@ mod StageStarts
 mod StageSeats
 mod StageFills
 mod StageLeases
+mod StageStarts
 mod Tasks
 mod Keys
 mod Places
@@ -16,6 +17,9 @@ mod Bounds
 pub mod BridgeFinds
 pub mod BridgeCalls
 pub mod BridgeLemmas
+pub mod ShownRows
+pub mod ShownLemmas
+pub mod BridgeChanges
 mod Enters
 mod Giving
 mod Adds
@@ -23,3 +27,10 @@ mod Removed
 mod Resizes
 mod Refilled
 mod Added
+mod LookViews
+mod LookStarts
+pub mod BridgePipe
+pub mod ShownView
+mod ShownValues
+mod Resized
+mod Goes

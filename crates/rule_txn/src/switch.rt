@@ -12,6 +12,10 @@ ghost use Rattle.rule_txn.specs.Switch.{SwitchState};
 ghost use Rattle.rule_txn.specs.Changes.{Answers, add_cause, resize_cause, remove_cause, release_cause};
 ghost use Rattle.rule_txn.specs.Fills.{Refills};
 
+mod looking;
+mod starting;
+mod view;
+
 use crate::faults::{AddFault, ReleaseFault, ResizeFault, StartFail, Unknown};
 use crate::rows::{Kept, arrays_in, copy_of, place_of, put_at, thaw_rows, with_size};
 use crate::seats::arrays_of;
@@ -79,6 +83,79 @@ impl Switch {
                 Ok(())
             }
         }
+    }
+
+    /// Moves the rows of a task to the lowest free partitions of another size, with their registers
+    /// at what the kind starts with. The old partitions are frozen: they keep their registers and
+    /// take no packets.
+    pub fn resize<R: RegFile>(&mut self, regs: &mut R, name: &Name, size: u32) -> Result<(), ResizeFault>
+        requires { IsShaped self.old.geometry (R.dims regs.old) }
+        ensures answer { Answers resize_cause (judged self.old.geometry self.old.outlines (Resize name.now size)) result self.old self.new }
+        ensures later { R.faults regs.old ≤ R.faults regs.new }
+        ensures device { IsErrOf result ResizeFault.Device → Rose (R.faults regs.old) (R.faults regs.new) }
+        ensures dims { R.dims regs.new ≡ R.dims regs.old }
+        ensures contents { Told (Refills (judged self.old.geometry self.old.outlines (Resize name.now size)) result) (R.contents regs.old) (R.contents regs.new) }
+        ensures calls { Stays (R.calls regs.old) (R.calls regs.new) }
+    {
+        let Some(at) = self.find(name) else {
+            return Err(ResizeFault::Unknown);
+        };
+        let kept = &self.records[at];
+        if kept.frozen().is_some() {
+            return Err(ResizeFault::FrozenHeld);
+        }
+        let shape = *self.stage.pipe().shape();
+        let Some(bits) = size_bits(shape, kept.task().kind(), size) else {
+            return Err(ResizeFault::BadMemory { size });
+        };
+        match self.stage.room_for(kept.rows(), bits) {
+            Ok(()) => {}
+            Err(refusal) => return Err(ResizeFault::NoRoom { row: refusal.row }),
+        }
+        let (task, frozen, rows) = self.records.remove(at).apart();
+        let start = start_value(task.kind());
+        match self.stage.fresh(regs, arrays_in(&rows), bits, start) {
+            Err(_) => {
+                put_at(&mut self.records, at, Kept::new(task, frozen, rows));
+                Err(ResizeFault::Device)
+            }
+            Ok(leases) => {
+                let sized = with_size(&task, size);
+                let rows = self.stage.move_all(&sized, rows, leases);
+                put_at(&mut self.records, at, Kept::new(sized, Some(task.size()), rows));
+                Ok(())
+            }
+        }
+    }
+
+    /// Takes a task away, and gives back its live and frozen partitions.
+    pub fn remove(&mut self, name: &Name) -> Result<(), Unknown>
+        ensures { Answers remove_cause (judged self.old.geometry self.old.outlines (Remove name.now)) result self.old self.new }
+    {
+        let Some(at) = self.find(name) else {
+            return Err(Unknown);
+        };
+        let (_, _, rows) = self.records.remove(at).apart();
+        let frozen = self.stage.clear_all(rows);
+        self.stage.give_frozen_all(frozen);
+        Ok(())
+    }
+
+    /// Gives back the frozen partitions of a task.
+    pub fn release(&mut self, name: &Name) -> Result<(), ReleaseFault>
+        ensures { Answers release_cause (judged self.old.geometry self.old.outlines (Release name.now)) result self.old self.new }
+    {
+        let Some(at) = self.find(name) else {
+            return Err(ReleaseFault::Unknown);
+        };
+        if self.records[at].frozen().is_none() {
+            return Err(ReleaseFault::NoFrozen);
+        }
+        let (task, _, rows) = self.records.remove(at).apart();
+        let (rows, frozen) = thaw_rows(rows);
+        self.stage.give_frozen_all(frozen);
+        put_at(&mut self.records, at, Kept::new(task, None, rows));
+        Ok(())
     }
 
     /// The place of the live task of this name.

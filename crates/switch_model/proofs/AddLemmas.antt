@@ -20,7 +20,7 @@ use Rattle.switch_model.proofs.CallLemmas.{share_turned}
 use Rattle.switch_model.proofs.StandLemmas.{none_frozen}
 use Rattle.switch_model.proofs.SightLemmas.{rules_seen, taken_seen, free_of_all, admitted, across_pairs, agree_turned}
 use Rattle.switch_model.proofs.UnitLemmas.{AreUses}
-use Rattle.switch_model.proofs.PieceLemmas.{held_pushed, spots_pushed, uses_pushed, rises_in, Key, key_of, KeysMatchNone, row_key, spot_keys, OnDifferent, different_spots, different_regions}
+pub use Rattle.switch_model.proofs.PieceLemmas.{held_pushed, spots_pushed, uses_pushed, rises_in, rises_differ, Key, key_of, KeysMatchNone, row_key, spot_keys, OnDifferent, different_spots, different_regions}
 use Rattle.switch_model.proofs.RowLemmas.{sound_uses, Placing, placing, new_row, uses_for, row_uses_are, uses_agree, rows_agree}
 
 new_rows : (geometry : Geometry) (sight : Sight) (task : Sketch) (found : List Place) → All (λ (row : Row). row.frozen ≡ None) (map (row_at geometry sight task) found)

@@ -19,7 +19,7 @@ use Rattle.switch_model.proofs.CallLemmas.{share_turned}
 use Rattle.switch_model.proofs.StandLemmas.{none_frozen, no_size}
 use Rattle.switch_model.proofs.SightLemmas.{taken_seen, free_of_all}
 use Rattle.addr_translate.specs.Blocks.{Block}
-use Rattle.switch_model.proofs.PieceLemmas.{held_between, spots_between, uses_between, held_both, spots_both, uses_both, pairs_cut, pairs_inserted, rises_differ, rises_same, key_of, KeysMatchNone, spot_keys, OnDifferent, different_regions, keep_keys, keep_uses}
+pub use Rattle.switch_model.proofs.PieceLemmas.{held_between, spots_between, uses_between, held_both, spots_both, uses_both, pairs_cut, pairs_inserted, rises_differ, rises_same, key_of, KeysMatchNone, spot_keys, OnDifferent, different_regions, keep_keys, keep_uses}
 
 -- ---- a removal
 

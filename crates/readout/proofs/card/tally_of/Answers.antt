@@ -1,9 +1,7 @@
 use Rattle.std.proofs.Common.{◌≡◌, ◌<◌, ◌^◌, rules, arith}
 use Rattle.reg_file.proofs.ReadLemmas.{reads_none, reads_then}
 use Rattle.sketch_defs.proofs.TallyLemmas.{rank_share_le}
-use Rattle.readout.specs.declared.views.Side.TheVariants.{Live}
 use Rattle.readout.specs.PlacedTasks.{place_in}
-use Rattle.readout.proofs.CellLemmas.{reads_on}
 use Rattle.readout.proofs.CardLemmas.{zeros_start, zeros_step, zeros_done, z_start, z_step, z_done, zero_share_few, rank_share_some}
 use Rattle.readout.proofs.card.tally_of.Goals as goal
 

@@ -1,4 +1,4 @@
-use Rattle.std.proofs.Common.{◌≡◌, ◌<◌, ◌^◌, rules, arith}
+use Rattle.std.proofs.Common.{◌≡◌, ◌<◌, ◌^◌, rules}
 use Rattle.reg_file.proofs.ReadLemmas.{reads_none, reads_then}
 use Rattle.readout.specs.PlacedTasks.{place_in, block_of}
 use Rattle.readout.proofs.CellLemmas.{reads_on, row_start, row_more, row_cut, row_done}

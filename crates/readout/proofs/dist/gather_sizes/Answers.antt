@@ -1,7 +1,7 @@
 use Rattle.std.proofs.Common.{slice_index, rules}
 use Rattle.sketch_defs.specs.Answers.{Size}
 use Rattle.readout.proofs.PieceLemmas.{gathers_at_err, cause_then}
-use Rattle.readout.proofs.DistLemmas.{sizes_more, sizes_cut, sizes_done}
+use Rattle.readout.proofs.DistLemmas.{sizes_more, sizes_cut}
 use Rattle.readout.proofs.dist.gather_sizes.Goals as goal
 
 pub runs-preserved : goal.runs-preserved

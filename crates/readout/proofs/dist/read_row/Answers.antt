@@ -1,8 +1,6 @@
 use Rattle.std.proofs.Common.{◌≡◌, ◌<◌, ◌^◌, ◌++◌, ◌∷◌, [], rules, arith}
 use Rattle.reg_file.proofs.ReadLemmas.{reads_none, reads_then}
-use Rattle.readout.specs.declared.views.Side.TheVariants.{Live}
 use Rattle.readout.specs.PlacedTasks.{place_in}
-use Rattle.readout.proofs.CellLemmas.{reads_on}
 use Rattle.readout.proofs.DistLemmas.{read_start, read_more, read_done}
 use Rattle.readout.proofs.dist.read_row.Goals as goal
 

@@ -1,8 +1,7 @@
-use Rattle.std.proofs.Common.{[], ◌++◌, codes, ap, sym, subst}
-use Rattle.task_lang.specs.Printing.{task_text}
+use Rattle.std.proofs.Common.{[]}
 use Rattle.readout.specs.Lines.{task_lines}
 use Rattle.readout.specs.PlacedTasks.{task_in}
-use Rattle.readout.proofs.PieceLemmas.{room_put, gathers_at_err, front_of_more}
+use Rattle.readout.proofs.PieceLemmas.{gathers_at_err, front_of_more}
 use Rattle.readout.proofs.ShowLemmas.{task_gathered}
 use Rattle.readout.proofs.show.gather_task.Goals as goal
 

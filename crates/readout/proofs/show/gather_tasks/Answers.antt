@@ -1,4 +1,4 @@
-use Rattle.std.proofs.Common.{◌≡◌, ◌<◌, ◌≤◌, length, rules, arith}
+use Rattle.std.proofs.Common.{◌<◌, ◌≤◌, length, rules}
 use Rattle.readout.specs.PlacedTasks.{no_placed_task}
 use Rattle.readout.specs.Lines.{task_lines}
 use Rattle.readout.proofs.PieceLemmas.{flat_start, flat_more, flat_stop, flat_done, cause_then}

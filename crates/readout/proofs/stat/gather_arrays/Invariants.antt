@@ -1,4 +1,4 @@
-use Rattle.std.proofs.Common.{◌≤◌, length}
+use Rattle.std.proofs.Common.{◌≤◌}
 use Rattle.std.specs.List.{range_with_len}
 use Rattle.addr_translate.specs.Geometry.{array_count}
 use Rattle.readout.specs.Lines.{array_line}

@@ -1,6 +1,5 @@
 use Rattle.std.proofs.Common.{◌≡◌, ◌<◌, length, rules}
 use Rattle.std.specs.List.{range_with_len}
-use Rattle.addr_translate.specs.Geometry.{array_count}
 use Rattle.readout.specs.Lines.{group_line}
 use Rattle.readout.proofs.PieceLemmas.{flat_start, flat_put, flat_unput, flat_done, cause_then}
 use Rattle.readout.proofs.ShowLemmas.{number_here, number_inside, numbers_end}

@@ -1,6 +1,5 @@
 use Rattle.std.proofs.Common.{◌≤◌, length}
 use Rattle.std.specs.List.{range_with_len}
-use Rattle.addr_translate.specs.Geometry.{array_count}
 use Rattle.readout.specs.Lines.{group_line}
 use Rattle.readout.proofs.PieceLemmas.{FlatSoFar}
 use Rattle.readout.proofs.stat.gather_groups.Given as goal

@@ -1,4 +1,4 @@
-use Rattle.std.proofs.Common.{◌≡◌, ◌≤◌, ◌<◌, ◌++◌, ◌∙◌, ap, ap₂, sym, length, take, List, Option, ℕ, append_assoc, rules, arith}
+use Rattle.std.proofs.Common.{◌++◌, ◌∙◌, ap, ap₂, sym, take, List, Option, ℕ, append_assoc, arith}
 use Rattle.std.specs.List.{flat_map, range_with_len}
 use Rattle.std.proofs.lemmas.List.{append-nil, take_all}
 use Rattle.readout.specs.Lines.{unit_text}

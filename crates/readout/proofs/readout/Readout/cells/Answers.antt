@@ -1,4 +1,4 @@
-use Rattle.std.proofs.Common.{◌≡◌, List, ℕ, Ok, Err}
+use Rattle.std.proofs.Common.{◌≡◌, List, ℕ, Ok}
 use Rattle.reg_file.proofs.ReadLemmas.{reads_none}
 use Rattle.readout.proofs.AnswerLemmas.{live_answers, refused_so, sent_so, stopped_so, refusal_told, stop_told, no_stop, one_stop, cells_lines_of}
 use Rattle.readout.proofs.CellLemmas.{block_of_cells}

@@ -1,0 +1,16 @@
+pub mod Agreements
+pub mod PlaceLemmas
+pub mod DrainLemmas
+pub mod CommitLemmas
+pub mod OrderLemmas
+pub mod SerialLemmas
+pub mod TraceLemmas
+pub mod GroupLemmas
+pub mod EndLemmas
+pub mod LawLemmas
+pub mod PassLemmas
+pub mod MoveLemmas
+pub mod QueueLemmas
+pub mod KeepLemmas
+pub mod PipeLemmas
+pub mod Values
