@@ -2,7 +2,6 @@ mod StageStarts
 mod StageSeats
 mod StageFills
 mod StageLeases
-mod StageStarts
 mod Tasks
 mod Keys
 mod Places
