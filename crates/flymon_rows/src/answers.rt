@@ -30,7 +30,7 @@ const ANSWERED: Sent = Sent {
 };
 
 /// A task of each kind that is built.
-const KINDS: [Session; 13] = [
+const KINDS: [Session; 16] = [
     (
         "add b cms 1 key=src_ip attr=bytes filter=all memory=32\n\
 packets 1\nquery b src_ip:10.0.0.1\npackets 1\nquery b src_ip:10.0.0.1\npackets 1\nquery b src_ip:10.0.0.1\n",
@@ -93,6 +93,22 @@ run\nread flows\nquery flows proto:6,dst_port:80,src_port:1024,dst_ip:192.168.1.
         &[FIRST],
         "added flows\npackets 1\nread flows rows 3 size 512 start 0\ncell 0 49 1\ncell 1 428 1\ncell 2 207 1\nend\n\
 query flows 1\n",
+    ),
+    (
+        "add s sumax_sum 3 key=src_ip attr=bytes filter=all memory=32\n\
+packets 1\nquery s src_ip:10.0.0.1\npackets 1\nquery s src_ip:10.0.0.1\npackets 1\nquery s src_ip:10.0.0.1\n",
+        &LONG,
+        "added s\npackets 1\nquery s 4294967294\npackets 1\nquery s 4294967295\npackets 1\nquery s 4294967295\n",
+    ),
+    (
+        "add h hll 1 key=dst_ip attr=flow filter=all memory=16\ncard h\n",
+        &[],
+        "refused add h bad memory 16\nrefused card h unknown\n",
+    ),
+    (
+        "add h cms 1 key=dst_ip attr=packets filter=all memory=2048\nadd h cms 1 key=dst_ip attr=packets filter=all memory=0\n",
+        &[],
+        "refused add h bad memory 2048\nrefused add h bad memory 0\n",
     ),
     (
         "add h hll 1 key=src_ip attr=flow filter=all memory=128\ncard h\n",
@@ -162,10 +178,10 @@ fn counts_what_the_filter_matches(rt: HostRuntime) -> Result<(), Fail> {
 const OTHERS: [Session; 5] = [
     (
         "add hot cms 1 key=src_ip attr=packets filter=all memory=32\nrun\n\
-query hot dst_ip:10.0.0.1\ncard hot\ndist cold\nfrozen hot\n",
+query hot dst_ip:10.0.0.1\ncard hot\ndist cold\nfrozen hot\nresize hot memory=100\n",
         &[FIRST, FIRST, SECOND, FIRST],
         "added hot\npackets 4\nrefused query hot bad key\nrefused card hot no answer\n\
-refused dist cold unknown\nrefused frozen hot nothing frozen\n",
+refused dist cold unknown\nrefused frozen hot nothing frozen\nrefused resize hot bad memory 100\n",
     ),
     (
         "add hot cms 1 key=src_ip attr=packets filter=all memory=32\n\

@@ -10,7 +10,11 @@ fn counts_packets_by_source(rt: HostRuntime) -> Result<(), Fail> {
     let alloc = rt.alloc();
     for piece in [1usize, 7, 4096] {
         let files = session_files(alloc, SCRIPT.as_bytes(), capture_of(alloc, &[1, 1, 2, 1])?)?;
-        let limits = Limits { piece, room: ROOM };
+        let limits = Limits {
+            piece,
+            room: ROOM,
+            err_room: ROOM,
+        };
         let ending = run_over(alloc, WORDS, files, &mut RamFile::new(), limits)?;
         expect_ending(
             &rt,

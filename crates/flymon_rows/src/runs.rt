@@ -20,16 +20,21 @@ pub(crate) const ROOM: usize = 4096;
 pub(crate) const LIMITS: Limits = Limits {
     piece: 7,
     room: ROOM,
+    err_room: ROOM,
 };
 
 /// The words of a run of the files that `session_files` makes.
 pub(crate) const WORDS: &str = "replay - S C";
 
-/// At most `piece` bytes are read or written at once, and `out` has room for `room` bytes.
+/// The same with the profile that `profiled_files` adds.
+pub(crate) const PROFILED: &str = "replay P S C";
+
+/// At most `piece` bytes are read or written at once; `out` and `err` have room for so many.
 #[derive(Clone, Copy)]
 pub(crate) struct Limits {
     pub piece: usize,
     pub room: usize,
+    pub err_room: usize,
     ghost moves: { 0 < piece },
 }
 
@@ -60,6 +65,21 @@ pub(crate) fn session_files(
     Ok(files)
 }
 
+/// The same, and the profile under the name `P`.
+pub(crate) fn profiled_files(
+    alloc: Global,
+    profile: &str,
+    script: &[u8],
+    capture: Vec<u8>,
+) -> Result<Vec<MemFile>, AllocError> {
+    let mut files = session_files(alloc, script, capture)?;
+    files.push(MemFile {
+        name: String::from_str(alloc, "P")?,
+        bytes: Vec::from_slice(alloc, profile.as_bytes())?,
+    })?;
+    Ok(files)
+}
+
 /// The words of a line.
 fn words_of(alloc: Global, line: &str) -> Result<Vec<String>, AllocError> {
     let mut words = Vec::new(alloc);
@@ -77,10 +97,22 @@ pub(crate) fn run_over<R: RegFile>(
     regs: &mut R,
     limits: Limits,
 ) -> Result<Ending, AllocError> {
+    run_failing(alloc, words, files, Vec::new(alloc), regs, limits)
+}
+
+/// The same, where the calls on the files that have these numbers fail.
+pub(crate) fn run_failing<R: RegFile>(
+    alloc: Global,
+    words: &str,
+    files: Vec<MemFile>,
+    failing: Vec<u64>,
+    regs: &mut R,
+    limits: Limits,
+) -> Result<Ending, AllocError> {
     let words = words_of(alloc, words)?;
-    let mut files = MemFiles::new(files, limits.piece, Vec::new(alloc));
+    let mut files = MemFiles::new(files, limits.piece, failing);
     let mut out = MemSink::new(alloc, limits.room, limits.piece, Vec::new(alloc))?;
-    let mut err = MemSink::new(alloc, ROOM, limits.piece, Vec::new(alloc))?;
+    let mut err = MemSink::new(alloc, limits.err_room, limits.piece, Vec::new(alloc))?;
     let status = run(alloc, &words, &mut files, regs, &mut out, &mut err);
     Ok(Ending { status, out, err })
 }
@@ -112,6 +144,21 @@ pub(crate) fn expect_done(
     let capture = capture_of_packets(alloc, packets)?;
     let files = session_files(alloc, script.as_bytes(), capture)?;
     let ending = run_over(alloc, WORDS, files, &mut RamFile::new(), LIMITS)?;
+    expect_ending(rt, &script, &ending, Status::Done, out.as_bytes(), b"");
+    Ok(())
+}
+
+/// The same for the switch of a profile.
+pub(crate) fn expect_done_on(
+    rt: &impl Abort,
+    alloc: Global,
+    profile: &str,
+    session: Session,
+) -> Result<(), AllocError> {
+    let (script, packets, out) = session;
+    let capture = capture_of_packets(alloc, packets)?;
+    let files = profiled_files(alloc, profile, script.as_bytes(), capture)?;
+    let ending = run_over(alloc, PROFILED, files, &mut RamFile::new(), LIMITS)?;
     expect_ending(rt, &script, &ending, Status::Done, out.as_bytes(), b"");
     Ok(())
 }

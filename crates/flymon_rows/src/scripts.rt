@@ -1,12 +1,14 @@
-//! Scripts at fault, scripts that are not built, and which of the two is looked at first.
+//! Scripts at fault, and the order in which the opening looks at words, files and texts.
 use crate::captures::capture_of;
-use crate::runs::{LIMITS, Limits, ROOM, WORDS, expect_ending, run_over, session_files};
+use crate::runs::{
+    LIMITS, Limits, ROOM, WORDS, expect_ending, profiled_files, run_over, session_files,
+};
 use flymon_engine::Status;
 use reg_file::RamFile;
 use std::test::Fail;
 
 /// Scripts, and what the message says of them.
-const FAULTS: [(&str, &str); 18] = [
+const FAULTS: [(&str, &str); 25] = [
     (
         "add hot cms 1 key=src_ip attr=packets filter=all memory=32\nrun\nrum\n",
         "3: command",
@@ -50,11 +52,20 @@ const FAULTS: [(&str, &str); 18] = [
         "1: size",
     ),
     ("packets ten\n", "1: number"),
-    // A script of a form that is not built is at fault first.
     ("run\nrum\n", "2: command"),
     (
         "add t sumax_sum 1 key=src_ip attr=ttl filter=all memory=16\nresize t memory=x",
         "2: size",
+    ),
+    ("packets 4294967296\n", "1: number"),
+    ("packets 00000000001\n", "1: number"),
+    ("show\nremove abcdefghijklmnopq\n", "2: name"),
+    ("query t src_ip:10.0.0.0/33\n", "1: at bad prefix 0"),
+    ("query t proto:6,src_ip:1.2.3/8\n", "1: at bad value 8"),
+    ("query t proto:6,proto:x\n", "1: at repeated field 8"),
+    (
+        "add t mrac 2 key=src_ip attr=ttl filter=all memory=32\n",
+        "1: rows",
     ),
 ];
 
@@ -80,49 +91,40 @@ fn names_the_fault_of_a_script(rt: HostRuntime) -> Result<(), Fail> {
     Ok(())
 }
 
-/// Valid scripts of forms that are not built.
-const UNBUILT: [&str; 20] = [
-    "",
-    "# hot\n\n",
-    "run\n",
-    "read hot\nadd hot cms 1 key=src_ip attr=packets filter=all memory=32\n",
-    "query hot src_ip:10.0.0.1\n",
-    "packets 1\n",
-    "show\n",
-    "add t sumax_sum 1 key=src_ip attr=packets filter=all memory=32\n",
-    "add t cms 1 key=src_ip attr=packets filter=all memory=16\n",
-    "add t hll 1 key=src_ip attr=flow filter=all memory=16\n",
-    "add t cms 1 key=src_ip attr=packets filter=all memory=2048\n",
-    "add t cms 1 key=src_ip attr=packets filter=all memory=33\n",
-    "add t cms 1 key=src_ip attr=packets filter=all memory=0\n",
-    "add t cms 1 key=src_ip attr=packets filter=all memory=32\n\
-add u cms 1 key=dst_ip attr=packets filter=all memory=32\n",
-    "add t cms 1 key=src_ip attr=packets filter=all memory=32\n\
-add t cms 1 key=src_ip attr=packets filter=all memory=32\n",
-    "add t cms 1 key=src_ip attr=packets filter=all memory=32\nrun\nresize t memory=64\n",
-    "add t cms 1 key=src_ip attr=packets filter=all memory=32\nremove t\n",
-    "add t cms 1 key=src_ip attr=packets filter=all memory=32\nrelease u\n",
-    "add t cms 1 key=src_ip attr=packets filter=all memory=32\nshow\n",
-    "add t cms 1 key=src_ip attr=packets filter=all memory=32\nstat\n",
-];
-
-#[test]
-fn refuses_what_is_not_built(rt: HostRuntime) -> Result<(), Fail> {
-    let alloc = rt.alloc();
-    for script in UNBUILT {
-        let files = session_files(alloc, script.as_bytes(), capture_of(alloc, &[1])?)?;
-        let ending = run_over(alloc, WORDS, files, &mut RamFile::new(), LIMITS)?;
-        expect_ending(&rt, &script, &ending, Status::Unbuilt, b"", b"not built\n");
-    }
-    assert_eq!(rt; Status::Unbuilt.code(), 10);
-    Ok(())
-}
-
-/// Words, a script under the name `S`, and how the run ends over a capture `C` of 23 bytes.
-const ORDERS: [(&str, &str, Status, &str); 12] = [
-    ("replay x S C", GOOD, Status::Unbuilt, "not built\n"),
-    ("replay x X X", GOOD, Status::Unbuilt, "not built\n"),
-    ("replay x S X", BAD, Status::Unbuilt, "not built\n"),
+/// Words, a script under the name `S`, and how the run ends over a profile `P` that is no TOML and a capture `C` of
+/// 23 bytes.
+const ORDERS: [(&str, &str, Status, &str); 17] = [
+    ("", BAD, Status::Usage, USAGE),
+    ("replay a b", BAD, Status::Usage, USAGE),
+    ("replay - S C S", GOOD, Status::Usage, USAGE),
+    ("show - S C", GOOD, Status::Usage, USAGE),
+    ("demo 0 1000001", GOOD, Status::Usage, USAGE),
+    ("demo 18446744073709551616 1", GOOD, Status::Usage, USAGE),
+    ("demo 0 x", GOOD, Status::Usage, USAGE),
+    (
+        "replay x X X",
+        GOOD,
+        Status::InputFault,
+        "input fault: profile\n",
+    ),
+    (
+        "replay x S C",
+        BAD,
+        Status::InputFault,
+        "input fault: profile\n",
+    ),
+    (
+        "replay P X X",
+        GOOD,
+        Status::BadProfile,
+        "bad profile: not toml\n",
+    ),
+    (
+        "replay P S C",
+        BAD,
+        Status::BadProfile,
+        "bad profile: not toml\n",
+    ),
     (
         "replay - X C",
         GOOD,
@@ -141,9 +143,12 @@ const ORDERS: [(&str, &str, Status, &str); 12] = [
         Status::BadScript,
         "bad script line 1: command\n",
     ),
-    ("replay - S X", "run\n", Status::Unbuilt, "not built\n"),
-    ("replay - S C", "run\n", Status::Unbuilt, "not built\n"),
-    ("replay - S X", "", Status::Unbuilt, "not built\n"),
+    (
+        "replay - S X",
+        "",
+        Status::InputFault,
+        "input fault: capture\n",
+    ),
     (
         "replay - S X",
         GOOD,
@@ -156,13 +161,9 @@ const ORDERS: [(&str, &str, Status, &str); 12] = [
         Status::BadCapture,
         "bad capture: short header\n",
     ),
-    (
-        "replay a b",
-        BAD,
-        Status::Usage,
-        "usage: flymon replay PROFILE SCRIPT CAPTURE | flymon demo SEED COUNT\n",
-    ),
 ];
+
+const USAGE: &str = "usage: flymon replay PROFILE SCRIPT CAPTURE | flymon demo SEED COUNT\n";
 
 const GOOD: &str = "add t cms 1 key=src_ip attr=packets filter=all memory=32\n";
 
@@ -174,7 +175,7 @@ fn opens_in_order(rt: HostRuntime) -> Result<(), Fail> {
     for (words, script, status, message) in ORDERS {
         let mut capture = capture_of(alloc, &[])?;
         capture.truncate(23);
-        let files = session_files(alloc, script.as_bytes(), capture)?;
+        let files = profiled_files(alloc, "=", script.as_bytes(), capture)?;
         let ending = run_over(alloc, words, files, &mut RamFile::new(), LIMITS)?;
         expect_ending(&rt, &words, &ending, status, b"", message.as_bytes());
     }
@@ -187,20 +188,30 @@ fn judges_long_scripts(rt: HostRuntime) -> Result<(), Fail> {
     let limits = Limits {
         piece: 4096,
         room: ROOM,
+        err_room: ROOM,
     };
-    // Each line is empty.
-    for (length, status, message) in [
-        (1_048_576usize, Status::Unbuilt, "not built\n"),
+    // One line of five bytes; each other line is empty.
+    for (blank, status, out, message) in [
+        (1_048_571usize, Status::Done, "tasks 0\nend\n", ""),
         (
-            1_048_577,
+            1_048_572,
             Status::BadScript,
+            "",
             "bad script line 0: too long\n",
         ),
     ] {
-        let script = vec![in alloc; b'\n'; length]?;
+        let mut script = Vec::from_slice(alloc, b"show\n")?;
+        script.extend_from_slice(&vec![in alloc; b'\n'; blank]?)?;
         let files = session_files(alloc, &script, capture_of(alloc, &[])?)?;
         let ending = run_over(alloc, WORDS, files, &mut RamFile::new(), limits)?;
-        expect_ending(&rt, &length, &ending, status, b"", message.as_bytes());
+        expect_ending(
+            &rt,
+            &blank,
+            &ending,
+            status,
+            out.as_bytes(),
+            message.as_bytes(),
+        );
     }
     Ok(())
 }

@@ -1,8 +1,7 @@
-mod StagePlans
+mod StageStarts
 mod StageSeats
 mod StageFills
 mod StageLeases
-mod StageStarts
 mod Tasks
 mod Keys
 mod Places

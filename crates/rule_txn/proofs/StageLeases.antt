@@ -1,6 +1,6 @@
 -- Leases that were taken one after another can be given back, the last first.
-use Rattle.std.proofs.Common.{◌≡◌, ℕ, ◌<◌, Bool, true, false, cond, List, [], ◌∷◌, length, get_or, set, zero, suc, length-set, refl, ap, sym, ◌∙◌, subst, arith}
-use Rattle.std.specs.Prelude.{nat_le, Contains, Option, None, Some, IsSome, option_map}
+use Rattle.std.proofs.Common.{◌≡◌, ℕ, ◌<◌, Bool, true, false, cond, List, [], ◌∷◌, length, set, zero, suc, length-set, refl, ap, sym, ◌∙◌, subst, arith}
+use Rattle.std.specs.Prelude.{nat_le, Contains, Option, None, Some, option_map}
 use Rattle.std.proofs.lemmas.Bool.{false≢true}
 use Rattle.std.proofs.lemmas.Bool.Decides.{nat_tests}
 use Rattle.std.proofs.lemmas.List.{get_or-set_same, set-get_or}
@@ -9,7 +9,7 @@ use Rattle.partition_pool.specs.Pools.{PoolState}
 use Rattle.partition_pool.specs.Regions.{is_block, put_by_base, without}
 use Rattle.partition_pool.proofs.Orders.{is_block_true, is_block_same, contains_put}
 use Rattle.placer.specs.Placement.{pool_at, no_pool}
-use Rattle.rule_txn.specs.State.{Lent, Gives, HasGiven, free_in, with_region, less_region}
+use Rattle.rule_txn.specs.State.{Lent, HasGiven, free_in, with_region, less_region}
 use Rattle.rule_txn.specs.Rows.{next_lease, with_lease, less_lease, fresh_leases, taken, given_back, GivesAt, CanTake, IsLent, CanGiveBack}
 
 -- ---- one region

@@ -5,12 +5,7 @@ use Rattle.group_keys.specs.Units.{UsedUnit, mask_of}
 use Rattle.switch_model.specs.Records.{Row}
 use Rattle.switch_model.specs.Changes.{mask_in}
 use Rattle.rule_txn.specs.State.{there}
-use Rattle.std.specs.List.{All}
-use Rattle.std.proofs.lemmas.List.Elements.{All-head, All-tail}
-use Rattle.addr_translate.specs.Geometry.{Geometry}
-use Rattle.placer.specs.declared.places.Place.{Place}
-use Rattle.rule_txn.specs.Rows.{Groups}
-use Rattle.rule_txn.specs.Stages.{IsPlace, ArePlaces, arrays_there}
+use Rattle.rule_txn.specs.Stages.{arrays_there}
 
 pub there_all : {X : Type 0} (xs : List X) → length xs ≤ 4
     → there (slice_get xs 0 ∷ slice_get xs 1 ∷ slice_get xs 2 ∷ slice_get xs 3 ∷ []) ≡ xs
@@ -50,12 +45,3 @@ there_four one two three four =
 pub few_there : (row : Option Row) → length (arrays_there (row ∷ [])) ≤ 1
 few_there None = omega arith
 few_there (Some row) = omega arith
-
--- places that are there, slot by slot
-pub are_places : (geometry : Geometry) (groups : Groups) (places : List (Option Place)) → All (IsPlace geometry groups) (there places)
-    → ArePlaces geometry groups places
-are_places geometry groups [] each = tt
-are_places geometry groups (None ∷ rest) each = (tt, are_places geometry groups rest each)
-are_places geometry groups (Some place ∷ rest) each =
-    (All-head (IsPlace geometry groups) place (there rest) each,
-     are_places geometry groups rest (All-tail (IsPlace geometry groups) place (there rest) each))

@@ -6,6 +6,7 @@ use Rattle.partition_pool.specs.Pools.{PoolState}
 use Rattle.group_keys.specs.Units.{UsedUnit, unit_at, units_in}
 use Rattle.group_keys.specs.declared.uses.KeyUse.{KeyUse}
 use Rattle.group_keys.specs.declared.uses.KeyUse.TheVariants as uses
+use Rattle.pipe_core.specs.Rules.{Rules, rules_of}
 use Rattle.placer.specs.declared.places.Place.{Place}
 use Rattle.placer.specs.declared.places.Refusal.{Refusal}
 use Rattle.placer.specs.Placement.{pool_at}
@@ -13,7 +14,7 @@ use Rattle.switch_model.specs.Records.{Row}
 use Rattle.switch_model.specs.Changes.{mask_in}
 use Rattle.rule_txn.specs.declared.rows.Served.{Served}
 use Rattle.rule_txn.specs.declared.rows.Served.TheVariants.{Single, Pair}
-use Rattle.rule_txn.specs.State.{Lent, there, units_for}
+use Rattle.rule_txn.specs.State.{State, Lent, there, units_for}
 use Rattle.rule_txn.specs.Rows.{Groups, with_lease}
 
 -- the pool of a lease had room for one region more
@@ -24,6 +25,10 @@ HadRoom pools (Some lease) = length (pool_at pools lease.pool).taken < 2 ^ (pool
 abbrev pub HadRoomAll : List PoolState → List (Option Lent) → Type 0
 HadRoomAll pools [] = Unit {0}
 HadRoomAll pools (lease ∷ rest) = HadRoom pools lease × HadRoomAll (with_lease pools lease) rest
+
+-- what the pipe has of it
+abbrev pub rules_in : State → Rules
+rules_in state = rules_of state.geometry state.hash_key state.tables state.groups
 
 -- ---- planned places
 

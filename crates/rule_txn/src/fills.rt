@@ -23,7 +23,8 @@ fn fill_one<R: RegFile>(
     requires { IsInFile (R.dims regs.old) lease.now }
     ensures cause { HasCause (R.faults regs.old) (R.faults regs.new) result }
     ensures dims { R.dims regs.new ≡ R.dims regs.old }
-    ensures contents { Told (Fills (lease.now ∷ []) value result) (R.contents regs.old) (R.contents regs.new) }
+    ensures contents { Told (Fills (lease.now ∷ []) value result)
+        (R.contents regs.old) (R.contents regs.new) }
     ensures calls { Stays (R.calls regs.old) (R.calls regs.new) }
 {
     match lease {

@@ -5,7 +5,7 @@ ghost use Rattle.outside.specs.Told.{Told, Stays};
 ghost use Rattle.std.specs.List.{All, AllPairs};
 ghost use Rattle.partition_pool.specs.Pools.{PoolState};
 ghost use Rattle.rule_txn.specs.Rows.{fresh_leases, taken, CanTake, leased_rows, AreServed, moved_all, CanMoveAll, lives, frozens, given, CanGive, with_uses, less_uses, CanServeAll, CanFreeAll, first_turn, with_rows, less_rows, CanSettleAll, CanLeaveAll};
-ghost use Rattle.rule_txn.specs.Stages.{HadRoomAll, ArePools, IsPlace, ArePlaces, found_in, served_on, arrays_there};
+ghost use Rattle.rule_txn.specs.Stages.{HadRoomAll, ArePools, IsPlace, ArePlaces, found_in, rules_in, served_on, arrays_there};
 ghost use Rattle.placer.specs.Sights.{bits_for};
 ghost use Rattle.placer.specs.Placement.{placed, sight_in, first_full};
 ghost use Rattle.rule_txn.specs.Switch.{first_state};
@@ -59,7 +59,7 @@ impl Stage {
     }
 
     pub(crate) fn pipe(&self) -> &Pipe
-        ensures { result.now ≡ record { geometry = self.now.geometry; hash_key = self.now.hash_key; tables = self.now.tables; groups = self.now.groups } }
+        ensures { result.now ≡ rules_in self.now }
     {
         &self.pipe
     }
@@ -75,7 +75,8 @@ impl Stage {
         requires pools { ArePools self.now.geometry self.now.pools }
         requires size { IsSome (bits_for self.now.geometry task.now.kind task.now.size) }
         ensures { IfSome (bits_for self.now.geometry task.now.kind task.now.size)
-            (λ bits. found_in result ≡ placed self.now.geometry (sight_in self.now.tables self.now.groups self.now.pools) task.now bits) }
+            (λ bits. found_in result ≡ placed self.now.geometry
+            (sight_in self.now.tables self.now.groups self.now.pools) task.now bits) }
     {
         let pipe = &self.pipe;
         match plan(
@@ -141,12 +142,15 @@ impl Stage {
         requires can { CanTake bits self.old.pools arrays }
         requires file { AreInFile (R.dims regs.old) (fresh_leases bits self.old.pools arrays) }
         ensures leases { IfOk result (λ leases. leases ≡ fresh_leases bits self.old.pools arrays) }
-        ensures state { IfOk result (λ leases. self.new ≡ record self.old { pools = taken leases self.old.pools }) }
+        ensures state { IfOk result (λ leases. self.new ≡ record self.old {
+          pools = taken leases self.old.pools;
+        }) }
         ensures room { IfOk result (HadRoomAll self.old.pools) }
         ensures refused { OnErr result (self.new ≡ self.old) }
         ensures cause { HasCause (R.faults regs.old) (R.faults regs.new) result }
         ensures dims { R.dims regs.new ≡ R.dims regs.old }
-        ensures contents { Told (Fills (fresh_leases bits self.old.pools arrays) value result) (R.contents regs.old) (R.contents regs.new) }
+        ensures contents { Told (Fills (fresh_leases bits self.old.pools arrays) value result)
+            (R.contents regs.old) (R.contents regs.new) }
         ensures calls { Stays (R.calls regs.old) (R.calls regs.new) }
     {
         let leases = self.take_all(arrays, bits);
@@ -168,8 +172,10 @@ impl Stage {
         leases: [Option<Lease<Live>>; 4],
     ) -> [Option<Leased>; 4]
         requires served { AreServed served 0 leases }
-        requires units { CanServeAll self.old.geometry task.now.key self.old.groups (leased_rows served 0 leases) }
-        requires entries { CanSettleAll self.old.geometry task.now first_turn self.old.tables (leased_rows served 0 leases) }
+        requires units { CanServeAll self.old.geometry task.now.key self.old.groups
+            (leased_rows served 0 leases) }
+        requires entries { CanSettleAll self.old.geometry task.now first_turn self.old.tables
+            (leased_rows served 0 leases) }
         ensures rows { result ≡ leased_rows served 0 leases }
         ensures state { self.new ≡ record self.old {
           tables = with_rows task.now first_turn self.old.tables result;
@@ -191,9 +197,12 @@ impl Stage {
     ) -> [Option<Leased>; 4]
         requires moves { CanMoveAll rows leases }
         requires leave { CanLeaveAll self.old.geometry self.old.tables rows }
-        requires entries { CanSettleAll self.old.geometry task.now first_turn (less_rows self.old.tables rows) (moved_all rows leases) }
+        requires entries { CanSettleAll self.old.geometry task.now first_turn (less_rows self.old.tables rows)
+            (moved_all rows leases) }
         ensures rows { result ≡ moved_all rows leases }
-        ensures state { self.new ≡ record self.old { tables = with_rows task.now first_turn (less_rows self.old.tables rows) result } }
+        ensures state { self.new ≡ record self.old {
+          tables = with_rows task.now first_turn (less_rows self.old.tables rows) result;
+        } }
     {
         self.uninstall_all(&rows);
         let rows = move_rows(rows, leases);

@@ -32,7 +32,11 @@ impl Stage {
         }
     }
 
-    pub(super) fn take_all(&mut self, arrays: [Option<u32>; 4], bits: u32) -> [Option<Lease<Live>>; 4]
+    pub(super) fn take_all(
+        &mut self,
+        arrays: [Option<u32>; 4],
+        bits: u32,
+    ) -> [Option<Lease<Live>>; 4]
         requires { CanTake bits self.old.pools arrays }
         ensures leases { result ≡ fresh_leases bits self.old.pools arrays }
         ensures state { self.new ≡ record self.old { pools = taken result self.old.pools } }

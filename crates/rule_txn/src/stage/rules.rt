@@ -11,7 +11,9 @@ impl Stage {
     /// One use more on the units of a row.
     fn serve(&mut self, task: &Task, row: &Option<Leased>)
         requires { CanServe self.old.geometry task.now.key self.old.groups row.now }
-        ensures { self.new ≡ record self.old { groups = with_use self.old.geometry task.now.key self.old.groups row.now } }
+        ensures { self.new ≡ record self.old {
+          groups = with_use self.old.geometry task.now.key self.old.groups row.now;
+        } }
     {
         if let Some(row) = row {
             let group = self.pipe.shape().group_of(row.array());
@@ -22,7 +24,9 @@ impl Stage {
     /// One use more on the units of each row.
     pub(super) fn serve_all(&mut self, task: &Task, rows: &[Option<Leased>; 4])
         requires { CanServeAll self.old.geometry task.now.key self.old.groups rows.now }
-        ensures { self.new ≡ record self.old { groups = with_uses self.old.geometry task.now.key self.old.groups rows.now } }
+        ensures { self.new ≡ record self.old {
+          groups = with_uses self.old.geometry task.now.key self.old.groups rows.now;
+        } }
     {
         let [one, two, three, four] = rows;
         self.serve(task, one);
@@ -34,7 +38,9 @@ impl Stage {
     /// One use less on the units of a row.
     fn free(&mut self, row: &Option<Leased>)
         requires { CanFree self.old.geometry self.old.groups row.now }
-        ensures { self.new ≡ record self.old { groups = less_use self.old.geometry self.old.groups row.now } }
+        ensures { self.new ≡ record self.old {
+          groups = less_use self.old.geometry self.old.groups row.now;
+        } }
     {
         if let Some(row) = row {
             let group = self.pipe.shape().group_of(row.array());
@@ -45,7 +51,9 @@ impl Stage {
     /// One use less on the units of each row.
     pub(super) fn free_all(&mut self, rows: &[Option<Leased>; 4])
         requires { CanFreeAll self.old.geometry self.old.groups rows.now }
-        ensures { self.new ≡ record self.old { groups = less_uses self.old.geometry self.old.groups rows.now } }
+        ensures { self.new ≡ record self.old {
+          groups = less_uses self.old.geometry self.old.groups rows.now;
+        } }
     {
         let [one, two, three, four] = rows;
         self.free(one);
@@ -58,7 +66,9 @@ impl Stage {
     fn install(&mut self, task: &Task, turn: Turn, row: &Option<Leased>) -> Turn
         requires { CanSettle self.old.geometry task.now turn self.old.tables row.now }
         ensures turn { result ≡ turn_after turn row.now }
-        ensures state { self.new ≡ record self.old { tables = with_row task.now turn self.old.tables row.now } }
+        ensures state { self.new ≡ record self.old {
+          tables = with_row task.now turn self.old.tables row.now;
+        } }
     {
         match row {
             None => turn,
@@ -76,7 +86,9 @@ impl Stage {
     /// Installs the entries of a task's rows.
     pub(super) fn install_all(&mut self, task: &Task, rows: &[Option<Leased>; 4])
         requires { CanSettleAll self.old.geometry task.now first_turn self.old.tables rows.now }
-        ensures { self.new ≡ record self.old { tables = with_rows task.now first_turn self.old.tables rows.now } }
+        ensures { self.new ≡ record self.old {
+          tables = with_rows task.now first_turn self.old.tables rows.now;
+        } }
     {
         let [one, two, three, four] = rows;
         let turn = Turn {

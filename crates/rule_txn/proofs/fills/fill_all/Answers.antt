@@ -1,4 +1,4 @@
-use Rattle.std.proofs.Common.{◌≡◌, subst, sym, List, [], ◌∷◌, get_or}
+use Rattle.std.proofs.Common.{subst, sym, [], ◌∷◌, get_or}
 use Rattle.outside.specs.Told.{Told}
 use Rattle.rule_txn.specs.Fills.{Fills}
 use Rattle.rule_txn.proofs.StageFills.{fills_more, four_is}

@@ -1,6 +1,6 @@
-use Rattle.std.proofs.Common.{◌≡◌, ◌∙◌, List, Option, sym, ap, subst}
+use Rattle.std.proofs.Common.{◌∙◌, List, sym, ap, subst}
 use Rattle.partition_pool.specs.Pools.{PoolState}
-use Rattle.rule_txn.specs.State.{State, Lent}
+use Rattle.rule_txn.specs.State.{State}
 use Rattle.rule_txn.specs.Rows.{CanGiveBack, given_back}
 use Rattle.rule_txn.proofs.StageLeases.{AllTaken, all_taken}
 use Rattle.rule_txn.proofs.stage.Stage.fresh.Goals as goal
