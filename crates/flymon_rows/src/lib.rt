@@ -14,11 +14,9 @@ mod commands;
 #[cfg(test)]
 mod damage;
 #[cfg(test)]
-<<<<<<< HEAD
 mod demo;
-=======
+#[cfg(test)]
 mod device;
->>>>>>> 5e40d2f56b92f205b8491026c56aace5b6cff458
 #[cfg(test)]
 mod faults;
 #[cfg(test)]
