@@ -1,14 +1,12 @@
 -- What a run over generated files comes to.
-use Rattle.std.proofs.Common.{◌≡◌, ◌++◌, ◌≤◌, ℕ, zero, suc, List, [], ◌∷◌, Bool, true, false, codes, Option, None, Some, Result, Ok, Err, refl, sym, ap, ◌∙◌, subst, arith, rules}
-use Rattle.std.specs.Prelude.{◌&&◌, if◌then◌else◌, is_some, nat_lt, length, IfSome}
+use Rattle.std.proofs.Common.{◌≡◌, ◌≤◌, ℕ, zero, suc, List, [], ◌∷◌, Bool, true, false, codes, Option, None, Some, Result, Ok, Err, refl, sym, ap, ◌∙◌, subst, arith}
+use Rattle.std.specs.Prelude.{◌&&◌, is_some, nat_lt, length, IfSome}
 use Rattle.std.specs.List.{slice_index_or}
 use Rattle.outside.specs.Faults.{Rose}
-use Rattle.outside.specs.Told.{Told, Stays}
-use Rattle.fm_io.specs.Slots.{Cursor, Slot, Slots}
+use Rattle.fm_io.specs.Slots.{Cursor, Slots}
 use Rattle.fm_io.specs.Names.{Directory, DirectoryStays, told_text}
 use Rattle.reg_file.specs.Registers.{Contents}
 use Rattle.capture_read.specs.declared.records.CaptureFault.{CaptureFault}
-use Rattle.capture_read.specs.Reading.{Records, capture_in, records_behind}
 use Rattle.capture_read.specs.Records.{header_in, has_magic, byte_order_in}
 use Rattle.sw_profile.specs.declared.profiles.Profile.{Profile}
 use Rattle.sw_profile.specs.Profiles.{standard_profile}
@@ -45,10 +43,9 @@ use Rattle.flymon_engine.specs.Boards.{Board, Rules}
 use Rattle.flymon_engine.specs.Moves.{dims_of}
 use Rattle.flymon_engine.specs.Runs.{Run, passed, pass_first, asked_by, taken_by, meets, step, done_by}
 use Rattle.flymon_engine.specs.Stops.{Ends}
-use Rattle.flymon_engine.specs.Going.{damage_met, GoesTo}
+use Rattle.flymon_engine.specs.Going.{damage_met}
 use Rattle.flymon_engine.specs.Worlds.{WhereTold}
-use Rattle.flymon_engine.specs.Opening.{StopsFiles, HasInputCause, KeepsNames, StraysStay}
-use Rattle.flymon_engine.specs.Endings.{Seen, FilesStay, StopsDemo, DemoMayEnd, CarriesDemo, CarriesReplay, Carried, Promises, Refuses, IsRefused, StopsReplay, Halts, beginning}
+use Rattle.flymon_engine.specs.Endings.{Seen, FilesStay, StopsDemo, DemoMayEnd, CarriesDemo, CarriesReplay, Carried, Promises, StopsReplay, beginning}
 use Rattle.flymon_engine.proofs.GoLemmas.{agrees}
 
 -- ---- the two texts

@@ -1,5 +1,5 @@
 -- Worked values of the words of a command line.
-use Rattle.std.proofs.Common.{◌≡◌, List, [], ◌∷◌, refl}
+use Rattle.std.proofs.Common.{◌≡◌, [], ◌∷◌, refl}
 use Rattle.std.specs.Prelude.{codes}
 use Rattle.key_mask.specs.Numbers.{number_in}
 use Rattle.flymon_engine.specs.Words.{Wrong, Replay, Demo, form_of}

@@ -1,6 +1,4 @@
-use Rattle.std.proofs.Common.{◌≡◌, ℕ, rules, refl}
-use Rattle.fm_io.specs.Slots.{Slots}
-use Rattle.fm_io.specs.Names.{Directory}
+use Rattle.std.proofs.Common.{refl}
 use Rattle.gen_capture.specs.GenFiles.{directory_of, slots_of}
 use Rattle.flymon_engine.specs.Endings.{Seen}
 use Rattle.flymon_engine.proofs.DemoLemmas.{demo_promises}
