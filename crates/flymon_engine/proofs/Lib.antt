@@ -7,5 +7,5 @@ pub mod EndLemmas
 pub mod GoLemmas
 pub mod ClauseLemmas
 pub mod IsolationLemmas
+pub mod SerialLemmas
 pub mod Values
-pub mod ShownLemmas
