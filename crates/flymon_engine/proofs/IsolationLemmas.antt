@@ -23,9 +23,9 @@ use Rattle.flymon_engine.specs.Arrivals.{Arrival, Left}
 use Rattle.flymon_engine.specs.Boards.{Board, lines_in}
 use Rattle.flymon_engine.specs.ChangeLines.{change_of}
 use Rattle.flymon_engine.specs.Runs.{Run, pass_first, passed, taken_by, step, carried, lines_of, done_by}
-use Rattle.flymon_engine.specs.Shown.{part_shown, parts_shown, view_of}
+use Rattle.rule_txn.specs.Seen.{part_shown, parts_shown, view_of}
 use Rattle.flymon_engine.specs.Endings.{beginning}
-use Rattle.flymon_engine.specs.Serial.{serial_rules, with_records, answer_on, request_verdict}
+use Rattle.flymon_engine.specs.Serial.{serial_rules, with_records, answer_on, request_verdict, state_of}
 use Rattle.flymon_engine.specs.Laws.{CountsAlone, AnswersAlone, events_of, history, is_own, own_history, lines_after}
 use Rattle.flymon_engine.proofs.TakeLemmas.{take_next, drop_next, passed_next}
 
@@ -133,7 +133,7 @@ lines_alone profile left works name ask =
     let records = after profile.shape [] (history (beginning profile left) works) in
     let there : Board = record { profile = profile; records = records } in
     ap (λ (b : Board). lines_in (request_verdict (Task name ask) (answer_on b (Task name ask)))) (carried_board (beginning profile left) works)
-    ∙ (ap (λ a. lines_in (request_verdict (Task name ask) a)) (answered profile.key name ask (view_of profile.shape (outlines records)) records)
+    ∙ (ap (λ a. lines_in (request_verdict (Task name ask) a)) (answered profile.key name ask (view_of (state_of there)) records)
     ∙ ap (lines_on profile.key name ask) (is_alone profile.shape name (history (beginning profile left) works)
         ∙ alone_own name (accepted profile.shape [] (history (beginning profile left) works))))
 

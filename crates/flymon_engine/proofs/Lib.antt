@@ -9,5 +9,5 @@ pub mod ClauseLemmas
 pub mod DemoLemmas
 pub mod IsolationLemmas
 pub mod WordValues
+pub mod SerialLemmas
 pub mod Values
-pub mod ShownLemmas

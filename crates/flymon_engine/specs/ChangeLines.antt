@@ -1,8 +1,10 @@
 -- The line of a change.
-use Rattle.std.specs.Prelude.{ℕ, List, ◌++◌, codes}
+use Rattle.std.specs.Prelude.{◌≡◌, ℕ, List, ◌++◌, codes, Option, None, Some, Result, Ok, Err}
+use Rattle.arrayvec.specs.ArrayString.{ArrayString}
 use Rattle.std.specs.Fmt.{decimal}
 use Rattle.placer.specs.declared.places as places
 use Rattle.placer.specs.declared.places.Refusal.TheVariants.{NoUnit, NoPartition}
+use Rattle.reg_file.specs.declared.traits.DeviceFault.{DeviceFault}
 use Rattle.switch_model.specs.Changes.{Refusal, Exists, BadMemory, Misplaced, Unknown, FrozenHeld, NoRoom, NoFrozen}
 use Rattle.switch_model.specs.Changes as model
 use Rattle.flymon_engine.specs.declared.change_lines.Reason.{Reason}
@@ -71,3 +73,9 @@ done_line change = done_word change ++ (name_of change ++ codes "\n")
 -- `refused WORD NAME REASON`
 abbrev pub denied_line : Change → Refusal → List ℕ
 denied_line change why = codes "refused " ++ (change_word change ++ (name_of change ++ (codes " " ++ (reason_words why ++ codes "\n"))))
+
+-- a change that was refused so is told by a line; where only the device refused it there is none
+abbrev pub Tells : Option Refusal → Change → Result ArrayString DeviceFault → Type 0
+Tells (Some why) change (Ok line) = line.bytes ≡ denied_line change why
+Tells None change (Err fault) = Unit {0}
+Tells _ change _ = ⊥

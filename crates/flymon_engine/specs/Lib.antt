@@ -14,6 +14,5 @@ pub mod Messages
 pub mod Endings
 pub mod Clauses
 pub mod ChangeLines
-pub mod Shown
 pub mod Serial
 pub mod Laws

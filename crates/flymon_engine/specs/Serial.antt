@@ -1,7 +1,10 @@
 -- The rules of a switch whose packets pass one after another, each through all groups.
-use Rattle.std.specs.Prelude.{ℕ, List, [], Result, Ok, Err}
+use Rattle.std.specs.Prelude.{◌≡◌, ℕ, List, [], Option, None, Some, Result, Ok, Err}
+use Rattle.arrayvec.specs.ArrayString.{ArrayString}
+use Rattle.addr_translate.specs.Geometry.{IsGeometry, greatest_bits}
+use Rattle.pipe_core.specs.Rules.{IsShaped}
 use Rattle.pkt_headers.specs.declared.packets.Packet.{Packet}
-use Rattle.reg_file.specs.Registers.{Contents}
+use Rattle.reg_file.specs.Registers.{Contents, Dims}
 use Rattle.readout.specs.declared.requests.Request.{Request}
 use Rattle.readout.specs.declared.requests.Request.TheVariants as requests
 use Rattle.readout.specs.declared.refusals as refusals
@@ -9,10 +12,12 @@ use Rattle.readout.specs.Answers.{Answer, answer_to, refused_line}
 use Rattle.switch_model.specs.Records.{Record, outlines}
 use Rattle.switch_model.specs.Changes.{Edit, Refusal, judged, changed}
 use Rattle.switch_model.specs.Packets.{join, calls_of, Layout}
+use Rattle.rule_txn.specs.Switch.{SwitchState}
+use Rattle.rule_txn.specs.Seen.{StandsFor, parts_shown, view_of}
+use Rattle.flymon_engine.specs.declared.serial.Serial.{Serial}
 use Rattle.flymon_engine.specs.declared.work.Change.{Change}
 use Rattle.flymon_engine.specs.Boards.{Board, Move, Verdict, Accepted, Refused, Rules}
 use Rattle.flymon_engine.specs.ChangeLines.{change_of, done_line, denied_line}
-use Rattle.flymon_engine.specs.Shown.{parts_shown, view_of}
 
 -- nothing changes, and no operation is made
 abbrev pub stayed : Board → Move
@@ -46,10 +51,13 @@ abbrev pub request_verdict : Request → Answer → Verdict
 request_verdict request (Ok lines) = Accepted lines
 request_verdict request (Err why) = Refused (denied_request request why)
 
+-- what a switch keeps of a board
+abbrev pub state_of : Board → SwitchState
+state_of board = record { geometry = board.profile.shape; hash_key = board.profile.key; outlines = outlines board.records }
+
 -- the answer over what the tasks have counted, and where they stand
 abbrev pub answer_on : Board → Request → Answer
-answer_on board request =
-    answer_to board.profile.key request (view_of board.profile.shape (outlines board.records)) (parts_shown board.profile.key board.records)
+answer_on board request = answer_to board.profile.key request (view_of (state_of board)) (parts_shown board.profile.key board.records)
 
 abbrev pub serial_rules : Rules
 serial_rules = record {
@@ -66,3 +74,21 @@ serial_rules = record {
 -- the registers hold the cells of all tasks
 abbrev pub serial_lays : Board → Contents → Type 0
 serial_lays board cells = Layout board.profile.key board.records cells
+
+-- ---- the machine
+
+-- registers of the switch's shape, and room for the cells of a row
+pub record FitsSerial (serial : Serial) (dims : Dims) : Type 0 where
+  pub limits : IsGeometry serial.switch.geometry
+  pub shaped : IsShaped serial.switch.geometry dims
+  pub room : serial.reader ≡ greatest_bits serial.switch.geometry
+  pub keyed : serial.key ≡ serial.switch.hash_key
+
+-- the switch has the tasks of the board in their places, and the registers hold their cells
+pub record IsSerial (switch : SwitchState) (board : Board) (cells : Contents) : Type 0 where
+  pub geometry : switch.geometry ≡ board.profile.shape
+  pub hash_key : switch.hash_key ≡ board.profile.key
+  pub stands : StandsFor switch board.records cells
+
+abbrev pub StandsSerial : Serial → Board → Contents → Type 0
+StandsSerial serial board cells = IsSerial serial.switch board cells

@@ -9,6 +9,7 @@ mod lines;
 mod machine;
 mod opening;
 mod report;
+mod serial;
 mod status;
 mod stop;
 mod top;
@@ -16,3 +17,4 @@ mod words;
 mod work;
 
 pub use status::Status;
+pub use top::run;

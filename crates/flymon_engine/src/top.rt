@@ -8,12 +8,14 @@ ghost use Rattle.flymon_engine.specs.Words.{Wrong, Replay, Demo, form_of, texts_
 ghost use Rattle.flymon_engine.specs.Moves.{NoCalls};
 ghost use Rattle.flymon_engine.specs.Opening.{is_standard, StraysStay};
 ghost use Rattle.flymon_engine.specs.Endings.{Seen, Promises, Ran};
+ghost use Rattle.flymon_engine.specs.Serial.{serial_rules, serial_lays};
 ghost use Rattle.flymon_engine.specs.Clauses.{names_profile, HasBadProfile, HasBadScript, IsDamaged, GoesAll, FailsInPlace, HasShaped, FailsDevice, IsEarly, FailsByName, SendsItsMessage, LeavesFiles};
 
 use crate::carry::carry_all;
 use crate::machine::{Machine, StartFail};
 use crate::opening::{Opened, open_files};
 use crate::report::report;
+use crate::serial::Serial;
 use crate::status::Status;
 use crate::stop::{Refusal, Stop, ending, status_of};
 use crate::words::{Asked, Names, asked_of};
@@ -23,8 +25,10 @@ use gen_capture::laws::captures_are_whole;
 use reg_file::RegFile;
 use std::alloc::Global;
 
-/// Carries out what the words of the command line ask for, on this machine.
-pub(crate) fn run_on<F: Files, M: Machine, R: RegFile, O: Sink, E: Sink>(
+/// Carries out what the words of the command line ask for.
+///
+/// The words are those behind the program's own name. A failed write to `err` changes no status.
+pub fn run<F: Files, R: RegFile, O: Sink, E: Sink>(
     alloc: Global,
     words: &[String],
     files: &mut F,
@@ -37,7 +41,7 @@ pub(crate) fn run_on<F: Files, M: Machine, R: RegFile, O: Sink, E: Sink>(
             regs = R.faults regs.old; dims = R.dims regs.old; cells = R.contents regs.old; calls = R.calls regs.old; out = O.faults out.old; sent = O.sent out.old } in
         let after : Seen = record { files = F.faults files.new; last = F.last files.new; strays = F.strays files.new; directory = F.directory files.new; slots = F.slots files.new;
             regs = R.faults regs.new; dims = R.dims regs.new; cells = R.contents regs.new; calls = R.calls regs.new; out = O.faults out.new; sent = O.sent out.new } in
-        Ran M.rules M.lays (form_of (texts_of words.now)) result before after (E.faults err.old) (E.faults err.new) (E.sent err.old) (E.sent err.new) }
+        Ran serial_rules serial_lays (form_of (texts_of words.now)) result before after (E.faults err.old) (E.faults err.new) (E.sent err.old) (E.sent err.new) }
 
     // what the words and texts determine
     ensures usage { (result ≡ Status.Usage) ↔ (form_of (texts_of words.now) ≡ Wrong) }
@@ -48,13 +52,13 @@ pub(crate) fn run_on<F: Files, M: Machine, R: RegFile, O: Sink, E: Sink>(
             regs = R.faults regs.old; dims = R.dims regs.old; cells = R.contents regs.old; calls = R.calls regs.old; out = O.faults out.old; sent = O.sent out.old } in
         let after : Seen = record { files = F.faults files.new; last = F.last files.new; strays = F.strays files.new; directory = F.directory files.new; slots = F.slots files.new;
             regs = R.faults regs.new; dims = R.dims regs.new; cells = R.contents regs.new; calls = R.calls regs.new; out = O.faults out.new; sent = O.sent out.new } in
-        result ≡ Status.BadCapture → IsDamaged M.rules M.lays (form_of (texts_of words.now)) before after }
+        result ≡ Status.BadCapture → IsDamaged serial_rules serial_lays (form_of (texts_of words.now)) before after }
     ensures done {
         let before : Seen = record { files = F.faults files.old; last = F.last files.old; strays = F.strays files.old; directory = F.directory files.old; slots = F.slots files.old;
             regs = R.faults regs.old; dims = R.dims regs.old; cells = R.contents regs.old; calls = R.calls regs.old; out = O.faults out.old; sent = O.sent out.old } in
         let after : Seen = record { files = F.faults files.new; last = F.last files.new; strays = F.strays files.new; directory = F.directory files.new; slots = F.slots files.new;
             regs = R.faults regs.new; dims = R.dims regs.new; cells = R.contents regs.new; calls = R.calls regs.new; out = O.faults out.new; sent = O.sent out.new } in
-        result ≡ Status.Done → GoesAll M.rules M.lays (form_of (texts_of words.now)) None before after }
+        result ≡ Status.Done → GoesAll serial_rules serial_lays (form_of (texts_of words.now)) None before after }
 
     // each fault has its cause and its place
     ensures input { result ≡ Status.InputFault → Rose (F.faults files.old) (F.faults files.new)
@@ -85,7 +89,7 @@ pub(crate) fn run_on<F: Files, M: Machine, R: RegFile, O: Sink, E: Sink>(
         LeavesFiles (form_of (texts_of words.now)) result before after }
     ensures message { SendsItsMessage result (E.faults err.old) (E.faults err.new) (E.sent err.old) (E.sent err.new) }
 {
-    let ended = execute::<F, M, R, O>(alloc, words, files, regs, out);
+    let ended = execute::<F, Serial, R, O>(alloc, words, files, regs, out);
     report(ended, err);
     status_of(ended)
 }
