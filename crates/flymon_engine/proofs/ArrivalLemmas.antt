@@ -46,7 +46,7 @@ ends_behind order offset rest found e = by (length rest == 0) (nat_lt (length re
   where
     by : (a b c d : Bool)
         → (if a then Ok None else if b then Err (ShortRecord offset) else if c then Err (BigRecord offset (captured_in order rest))
-            else if d then Err (ShortRecord offset) else Ok (Some (record_at order offset rest))) ≡ Ok (Some found)
+        else if d then Err (ShortRecord offset) else Ok (Some (record_at order offset rest))) ≡ Ok (Some found)
         → offset < found.end
     by true b c d e = cc
     by false true c d e = cc
@@ -143,7 +143,7 @@ pub told_some : (before after : Reading) (frame : Frame) (packet : Packet) (answ
 told_some before after frame packet answer a b is made left r left' =
     told_weaker a.cursor b.cursor
     (λ x y g. gives_some before after (record_of before.at frame) packet left' x y g.moves
-        ((by x y answer is g.answers).0) ((by x y answer is g.answers).1) (left ∙ ap (moved before) (sym is)) made)
+    ((by x y answer is g.answers).0) ((by x y answer is g.answers).1) (left ∙ ap (moved before) (sym is)) made)
     r.cursor
   where
     by : (x y : Cursor) (answer : Result (Option Record) CaptureFault) → Ok (Some (record_of before.at frame)) ≡ answer
@@ -156,7 +156,7 @@ pub told_none : (before after : Reading) (answer : Result (Option Record) Captur
 told_none before after answer a b is left r left' =
     told_weaker a.cursor b.cursor
     (λ x y g. let answers : AnswersNext (Ok None) (next_in x.bytes before) x y = subst (λ (f : Result (Option Record) CaptureFault). AnswersNext f (next_in x.bytes before) x y) (sym is) g.answers in
-        gives_end before after left' x y g.moves answers.0 (left ∙ ap (moved before) (sym is)))
+    gives_end before after left' x y g.moves answers.0 (left ∙ ap (moved before) (sym is)))
     r.cursor
 
 pub told_fault : (before after : Reading) (fault : CaptureFault) (a b : Slot) → SlotMoves (GoesOn before (Err fault)) a b

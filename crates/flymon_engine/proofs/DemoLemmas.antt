@@ -202,7 +202,7 @@ carries whole r lays seed count few s n f0 l0 st0 m l d0 slots0 given before aft
     let is : carried.setup ≡ standard_profile = carried.opened.profile_text in
     let place = slice_index_or given 2 None in
     let there = carried_there r lays seed count s n (beside before f0 l0 st0 d0 slots0) (beside after m l m (directory_in s n) (slots_in s n given)) before after result carried.setup carried.commands
-        is (capture_same seed count s n directory) refl refl refl refl place carried.attached after.cells carried.carried in
+    is (capture_same seed count s n directory) refl refl refl refl place carried.attached after.cells carried.carried in
     record {
       stays = stays;
       may = may_end whole r lays seed count few before after result carried.commands (at_of (slot_in s n place).cursor) never there;

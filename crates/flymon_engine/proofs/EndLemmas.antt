@@ -41,7 +41,7 @@ pub carried_on : {T : Type 0} (rules : Rules) (stands0 stands1 lays : Board → 
     → IfSome t0 (HasBegun reading) → IfSome c0 (stands0 (no_tasks profile))
     → Told MovesOn t0 t1 → WasTold c0 c1 → WasTold c1 c2
     → ((base : Before) (start : Run) → WhereTold t0 c0 (λ t c. IsAt stands0 (Comes reading) base calls1 before.sent t c start)
-        → WhereTold t1 c1 (EndsAt rules stands1 base calls2 after.sent result start (works_of commands)))
+    → WhereTold t1 c1 (EndsAt rules stands1 base calls2 after.sent result start (works_of commands)))
     → ((board : Board) → Told (λ old new. stands1 board old → Moves lays (rules.finish board) calls2 after.calls new) c1 c2)
     → Told (λ old now. now ≡ []) before.calls calls1
     → WhereTold t1 c2 (Carried rules lays profile before after result commands)

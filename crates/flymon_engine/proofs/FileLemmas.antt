@@ -148,6 +148,7 @@ told_by R P name d0 d1 a b attached begins directory slot holds =
     by true None e h = tt
     by true (Some c) e h = h
     by false cursor e h = cc
+
     inner : (x y : Option (List ℕ)) (t u : Option Cursor) → Begins x t → Stays x y → Told R t u → IfSome u (λ _. IfSome y P)
     inner x y t None begins same r = tt
     inner x y None (Some u) begins same r = absurd r
@@ -216,6 +217,7 @@ attached_there {T} name d0 d1 x before now directory counts = by d0.names d1.nam
         → (list_any (bytes_eq name) there ≡ true) × (now ≡ before)
     one there true e h = (e, h)
     one there false e h = absurd (let bad = h.0 in cc)
+
     by : (x0 x1 : Option (List (List ℕ))) → Stays x0 x1 → CountsStray {T = T} {E = Failed} x0 name (Ok x) before now
         → IfSome x1 (λ there. list_any (bytes_eq name) there ≡ true) × IfSome x1 (λ there. now ≡ before)
     by x0 None same h = (tt, tt)

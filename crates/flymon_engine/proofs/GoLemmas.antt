@@ -128,4 +128,3 @@ agrees rules at (Err Output) start commands end ends =
     in_text rules start (sends (done_by rules here ends.command) ends.halts.front) end commands (here.text ++ ends.halts.front) (going rules here (ends.command ∷ ends.rest)) ends.halts.is
     (ap (λ t. t ++ ends.halts.front) (done_text rules here ends.command))
     (from_here rules start ends.done ends.rest commands ends.command ends.whole ends.unmet) (part_text rules here ends.command ends.rest ends.halts.front ends.halts.unmet ends.halts.cuts)
-

@@ -73,8 +73,8 @@ passed_all run (suc k) h = by (drop k run.left.list) refl (passed_all run k (ome
         let f : Arrival → Event = λ x. Passes x.packet in
         let here = after geometry records (map f (take k run.left.list)) in
         let more : after geometry records (map f (take (k + 1) run.left.list)) ≡ join a.packet here =
-            ap (λ l. after geometry records (map f l)) front ∙ (ap (after geometry records) (map-append f (take k run.left.list) (a ∷ []))
-            ∙ after_more geometry records (map f (take k run.left.list)) (Passes a.packet ∷ [])) in
+        ap (λ l. after geometry records (map f l)) front ∙ (ap (after geometry records) (map-append f (take k run.left.list) (a ∷ []))
+        ∙ after_more geometry records (map f (take k run.left.list)) (Passes a.packet ∷ [])) in
         let same : k + 1 ≡ suc k = omega arith in
         subst (λ (n : ℕ). Passed run n) same (record {
           left = ap (λ (r : Run). r.left.list) now ∙ sym behind;
@@ -135,7 +135,7 @@ lines_alone profile left works name ask =
     ap (λ (b : Board). lines_in (request_verdict (Task name ask) (answer_on b (Task name ask)))) (carried_board (beginning profile left) works)
     ∙ (ap (λ a. lines_in (request_verdict (Task name ask) a)) (answered profile.key name ask (view_of (state_of there)) records)
     ∙ ap (lines_on profile.key name ask) (is_alone profile.shape name (history (beginning profile left) works)
-        ∙ alone_own name (accepted profile.shape [] (history (beginning profile left) works))))
+    ∙ alone_own name (accepted profile.shape [] (history (beginning profile left) works))))
 
 pub answers_alone : AnswersAlone
 answers_alone one two left_one left_two works_one works_two name ask keys same =

@@ -139,8 +139,10 @@ serial_change {T} {F} cause board change made result before after old new calls0
   where
     same : judged before.geometry before.outlines (change_of change) ≡ judged board.profile.shape (outlines board.records) (change_of change)
     same = ap₂ (λ g os. judged g os (change_of change)) serial.geometry serial.stands.same
+
     shape : (after.geometry ≡ before.geometry) × (after.hash_key ≡ before.hash_key)
     shape = same_shape cause (judged before.geometry before.outlines (change_of change)) made before after answers
+
     by : (v : Result Edit Refusal) → judged board.profile.shape (outlines board.records) (change_of change) ≡ v → (made : Result T F)
         → (result : Result ArrayString DeviceFault) → Answers cause v made before after → Says cause change made result
         → IsSerial after (with_records board (records_after made board.profile.shape (change_of change) board.records)) new

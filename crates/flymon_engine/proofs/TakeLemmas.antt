@@ -3,7 +3,7 @@ use Rattle.std.proofs.Common.{◌≡◌, ◌≢◌, ◌≤◌, ◌<◌, ℕ, zer
 use Rattle.std.specs.Prelude.{nat_le, nat_lt, is_some, ◌&&◌, count_by}
 use Rattle.std.specs.List.{All}
 use Rattle.std.proofs.lemmas.Bool.Decides.{nat_tests}
-use Rattle.std.proofs.lemmas.List.{length-append, length-drop, length-take,  append-nil, take-append-drop, drop_more, take_more}
+use Rattle.std.proofs.lemmas.List.{length-append, length-drop, length-take, append-nil, take-append-drop, drop_more, take_more}
 use Rattle.std.proofs.lemmas.List.Elements.{All-append, All-weaker, All-cons, All-nil, All-head, All-tail, All-take}
 use Rattle.std.proofs.lemmas.List.Sums.{sum_by-cons}
 use Rattle.outside.specs.Told.{Told, Stays, Grows}
@@ -143,7 +143,7 @@ ended_are at k asked list room less ended behind =
     let split : take asked list ≡ take k list ++ take (asked - k) (drop k list) = take_split k asked list (omega arith) in
     let some = All-weaker (λ (a : Arrival). a.end ≤ at) (λ (a : Arrival). p a ≡ true) (λ (a : Arrival) h. grind (arith, nat_tests, h)) (take k list) ended in
     let none = All-weaker (λ (a : Arrival). at < a.end) (λ (a : Arrival). p a ≡ false) (λ (a : Arrival) h. grind (arith, nat_tests, h)) (take (asked - k) (drop k list))
-        (All-take (λ (a : Arrival). at < a.end) (asked - k) (drop k list) behind) in
+    (All-take (λ (a : Arrival). at < a.end) (asked - k) (drop k list) behind) in
     ap (count_by p) split ∙ (counts_front p (take k list) (take (asked - k) (drop k list)) some none ∙ omega (arith, length-take k list))
 
 -- the next record is damaged

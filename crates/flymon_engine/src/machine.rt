@@ -6,7 +6,6 @@ ghost use Rattle.reg_file.specs.Registers.{Dims, Contents};
 ghost use Rattle.flymon_engine.specs.Boards.{Board, Rules, no_tasks};
 ghost use Rattle.flymon_engine.specs.Moves.{dims_of, WasTold, Moves, Changes, Answers, NoCalls};
 
-use sw_profile::Profile;
 use crate::work::Change;
 use fm_io::Sink;
 use key_mask::Line;
@@ -14,6 +13,7 @@ use pkt_headers::Packet;
 use readout::Request;
 use reg_file::{DeviceFault, RegFile};
 use std::alloc::Global;
+use sw_profile::Profile;
 
 /// Why an answer was cut off.
 #[derive(Clone, Copy, Debug, PartialEq, Eq)]
@@ -44,11 +44,7 @@ pub(crate) trait Machine {
     ghost stands: { Self → Board → Contents → Type 0 };
 
     /// Shapes the registers; there are no tasks.
-    fn start<R: RegFile>(
-        alloc: Global,
-        profile: &Profile,
-        regs: &mut R,
-    ) -> Result<Self, StartFail>
+    fn start<R: RegFile>(alloc: Global, profile: &Profile, regs: &mut R) -> Result<Self, StartFail>
         ensures fits { IfOk result (λ machine. fits machine (R.dims regs.new)) }
         ensures dims { IfOk result (λ machine. R.dims regs.new ≡ dims_of profile.now.shape) }
         ensures later { R.faults regs.old ≤ R.faults regs.new }

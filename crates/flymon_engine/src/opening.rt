@@ -60,11 +60,7 @@ pub(crate) fn open_files<F: Files>(
 }
 
 /// The profile that the words name.
-fn profile_of<F: Files>(
-    alloc: Global,
-    names: Names<'_>,
-    files: &mut F,
-) -> Result<Profile, Refusal>
+fn profile_of<F: Files>(alloc: Global, names: Names<'_>, files: &mut F) -> Result<Profile, Refusal>
     ensures later { F.faults files.old ≤ F.faults files.new }
     ensures directory { DirectoryStays (F.directory files.old) (F.directory files.new) }
     ensures cause { IfErr result (HasInputCause (F.faults files.old) (F.faults files.new) (F.last files.new)) }
@@ -120,11 +116,7 @@ fn commands_of<F: Files>(
 }
 
 /// The capture, with its header read.
-fn capture_of<F: Files>(
-    alloc: Global,
-    names: Names<'_>,
-    files: &mut F,
-) -> Result<Capture, Refusal>
+fn capture_of<F: Files>(alloc: Global, names: Names<'_>, files: &mut F) -> Result<Capture, Refusal>
     ensures later { F.faults files.old ≤ F.faults files.new }
     ensures cause { IfErr result (HasInputCause (F.faults files.old) (F.faults files.new) (F.last files.new)) }
     ensures directory { DirectoryStays (F.directory files.old) (F.directory files.new) }

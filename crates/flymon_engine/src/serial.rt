@@ -116,7 +116,10 @@ impl Machine for Serial {
             Request::Show => told(self.reader.show(&self.switch, out)),
             Request::Stat => told(self.reader.stat(&self.switch, out)),
             Request::Task { name, ask } => {
-                match self.reader.read_out(&self.switch, regs, &self.key, request, out) {
+                match self
+                    .reader
+                    .read_out(&self.switch, regs, &self.key, request, out)
+                {
                     Ok(Ok(())) => Ok(None),
                     Ok(Err(refusal)) => Ok(Some(refused_line(ask, name, refusal))),
                     Err(Stop::Device) => Err(AskFault::Device),

@@ -36,44 +36,149 @@ pub fn run<F: Files, R: RegFile, O: Sink, E: Sink>(
     out: &mut O,
     err: &mut E,
 ) -> Status
-    ensures ran {
-        let before : Seen = record { files = F.faults files.old; last = F.last files.old; strays = F.strays files.old; directory = F.directory files.old; slots = F.slots files.old;
-            regs = R.faults regs.old; dims = R.dims regs.old; cells = R.contents regs.old; calls = R.calls regs.old; out = O.faults out.old; sent = O.sent out.old } in
-        let after : Seen = record { files = F.faults files.new; last = F.last files.new; strays = F.strays files.new; directory = F.directory files.new; slots = F.slots files.new;
-            regs = R.faults regs.new; dims = R.dims regs.new; cells = R.contents regs.new; calls = R.calls regs.new; out = O.faults out.new; sent = O.sent out.new } in
+    ensures ran { let before : Seen = record {
+      files = F.faults files.old;
+      last = F.last files.old;
+      strays = F.strays files.old;
+      directory = F.directory files.old;
+      slots = F.slots files.old;
+      regs = R.faults regs.old;
+      dims = R.dims regs.old;
+      cells = R.contents regs.old;
+      calls = R.calls regs.old;
+      out = O.faults out.old;
+      sent = O.sent out.old;
+    } in
+        let after : Seen = record {
+          files = F.faults files.new;
+          last = F.last files.new;
+          strays = F.strays files.new;
+          directory = F.directory files.new;
+          slots = F.slots files.new;
+          regs = R.faults regs.new;
+          dims = R.dims regs.new;
+          cells = R.contents regs.new;
+          calls = R.calls regs.new;
+          out = O.faults out.new;
+          sent = O.sent out.new;
+        } in
         Ran serial_rules serial_lays (form_of (texts_of words.now)) result before after (E.faults err.old) (E.faults err.new) (E.sent err.old) (E.sent err.new) }
 
     // what the words and texts determine
     ensures usage { (result ≡ Status.Usage) ↔ (form_of (texts_of words.now) ≡ Wrong) }
     ensures bad_profile { result ≡ Status.BadProfile → HasBadProfile (form_of (texts_of words.now)) (F.directory files.new) (F.slots files.new) }
     ensures bad_script { result ≡ Status.BadScript → HasBadScript (form_of (texts_of words.now)) (F.directory files.new) (F.slots files.new) }
-    ensures bad_capture {
-        let before : Seen = record { files = F.faults files.old; last = F.last files.old; strays = F.strays files.old; directory = F.directory files.old; slots = F.slots files.old;
-            regs = R.faults regs.old; dims = R.dims regs.old; cells = R.contents regs.old; calls = R.calls regs.old; out = O.faults out.old; sent = O.sent out.old } in
-        let after : Seen = record { files = F.faults files.new; last = F.last files.new; strays = F.strays files.new; directory = F.directory files.new; slots = F.slots files.new;
-            regs = R.faults regs.new; dims = R.dims regs.new; cells = R.contents regs.new; calls = R.calls regs.new; out = O.faults out.new; sent = O.sent out.new } in
+    ensures bad_capture { let before : Seen = record {
+      files = F.faults files.old;
+      last = F.last files.old;
+      strays = F.strays files.old;
+      directory = F.directory files.old;
+      slots = F.slots files.old;
+      regs = R.faults regs.old;
+      dims = R.dims regs.old;
+      cells = R.contents regs.old;
+      calls = R.calls regs.old;
+      out = O.faults out.old;
+      sent = O.sent out.old;
+    } in
+        let after : Seen = record {
+          files = F.faults files.new;
+          last = F.last files.new;
+          strays = F.strays files.new;
+          directory = F.directory files.new;
+          slots = F.slots files.new;
+          regs = R.faults regs.new;
+          dims = R.dims regs.new;
+          cells = R.contents regs.new;
+          calls = R.calls regs.new;
+          out = O.faults out.new;
+          sent = O.sent out.new;
+        } in
         result ≡ Status.BadCapture → IsDamaged serial_rules serial_lays (form_of (texts_of words.now)) before after }
-    ensures done {
-        let before : Seen = record { files = F.faults files.old; last = F.last files.old; strays = F.strays files.old; directory = F.directory files.old; slots = F.slots files.old;
-            regs = R.faults regs.old; dims = R.dims regs.old; cells = R.contents regs.old; calls = R.calls regs.old; out = O.faults out.old; sent = O.sent out.old } in
-        let after : Seen = record { files = F.faults files.new; last = F.last files.new; strays = F.strays files.new; directory = F.directory files.new; slots = F.slots files.new;
-            regs = R.faults regs.new; dims = R.dims regs.new; cells = R.contents regs.new; calls = R.calls regs.new; out = O.faults out.new; sent = O.sent out.new } in
+    ensures done { let before : Seen = record {
+      files = F.faults files.old;
+      last = F.last files.old;
+      strays = F.strays files.old;
+      directory = F.directory files.old;
+      slots = F.slots files.old;
+      regs = R.faults regs.old;
+      dims = R.dims regs.old;
+      cells = R.contents regs.old;
+      calls = R.calls regs.old;
+      out = O.faults out.old;
+      sent = O.sent out.old;
+    } in
+        let after : Seen = record {
+          files = F.faults files.new;
+          last = F.last files.new;
+          strays = F.strays files.new;
+          directory = F.directory files.new;
+          slots = F.slots files.new;
+          regs = R.faults regs.new;
+          dims = R.dims regs.new;
+          cells = R.contents regs.new;
+          calls = R.calls regs.new;
+          out = O.faults out.new;
+          sent = O.sent out.new;
+        } in
         result ≡ Status.Done → GoesAll serial_rules serial_lays (form_of (texts_of words.now)) None before after }
 
     // each fault has its cause and its place
     ensures input { result ≡ Status.InputFault → Rose (F.faults files.old) (F.faults files.new)
         × FailsInPlace (form_of (texts_of words.now)) (F.directory files.new) (F.slots files.new) (F.last files.new) }
-    ensures output {
-        let before : Seen = record { files = F.faults files.old; last = F.last files.old; strays = F.strays files.old; directory = F.directory files.old; slots = F.slots files.old;
-            regs = R.faults regs.old; dims = R.dims regs.old; cells = R.contents regs.old; calls = R.calls regs.old; out = O.faults out.old; sent = O.sent out.old } in
-        let after : Seen = record { files = F.faults files.new; last = F.last files.new; strays = F.strays files.new; directory = F.directory files.new; slots = F.slots files.new;
-            regs = R.faults regs.new; dims = R.dims regs.new; cells = R.contents regs.new; calls = R.calls regs.new; out = O.faults out.new; sent = O.sent out.new } in
+    ensures output { let before : Seen = record {
+      files = F.faults files.old;
+      last = F.last files.old;
+      strays = F.strays files.old;
+      directory = F.directory files.old;
+      slots = F.slots files.old;
+      regs = R.faults regs.old;
+      dims = R.dims regs.old;
+      cells = R.contents regs.old;
+      calls = R.calls regs.old;
+      out = O.faults out.old;
+      sent = O.sent out.old;
+    } in
+        let after : Seen = record {
+          files = F.faults files.new;
+          last = F.last files.new;
+          strays = F.strays files.new;
+          directory = F.directory files.new;
+          slots = F.slots files.new;
+          regs = R.faults regs.new;
+          dims = R.dims regs.new;
+          cells = R.contents regs.new;
+          calls = R.calls regs.new;
+          out = O.faults out.new;
+          sent = O.sent out.new;
+        } in
         result ≡ Status.OutputFault → Rose (O.faults out.old) (O.faults out.new) × HasShaped (form_of (texts_of words.now)) after }
-    ensures device {
-        let before : Seen = record { files = F.faults files.old; last = F.last files.old; strays = F.strays files.old; directory = F.directory files.old; slots = F.slots files.old;
-            regs = R.faults regs.old; dims = R.dims regs.old; cells = R.contents regs.old; calls = R.calls regs.old; out = O.faults out.old; sent = O.sent out.old } in
-        let after : Seen = record { files = F.faults files.new; last = F.last files.new; strays = F.strays files.new; directory = F.directory files.new; slots = F.slots files.new;
-            regs = R.faults regs.new; dims = R.dims regs.new; cells = R.contents regs.new; calls = R.calls regs.new; out = O.faults out.new; sent = O.sent out.new } in
+    ensures device { let before : Seen = record {
+      files = F.faults files.old;
+      last = F.last files.old;
+      strays = F.strays files.old;
+      directory = F.directory files.old;
+      slots = F.slots files.old;
+      regs = R.faults regs.old;
+      dims = R.dims regs.old;
+      cells = R.contents regs.old;
+      calls = R.calls regs.old;
+      out = O.faults out.old;
+      sent = O.sent out.old;
+    } in
+        let after : Seen = record {
+          files = F.faults files.new;
+          last = F.last files.new;
+          strays = F.strays files.new;
+          directory = F.directory files.new;
+          slots = F.slots files.new;
+          regs = R.faults regs.new;
+          dims = R.dims regs.new;
+          cells = R.contents regs.new;
+          calls = R.calls regs.new;
+          out = O.faults out.new;
+          sent = O.sent out.new;
+        } in
         result ≡ Status.DeviceFault → Rose (R.faults regs.old) (R.faults regs.new) × FailsDevice (form_of (texts_of words.now)) after }
     ensures nothing { IsEarly result → Stays (O.sent out.old) (O.sent out.new) × NoCalls (R.calls regs.old) (R.calls regs.new) }
 
@@ -81,11 +186,32 @@ pub fn run<F: Files, R: RegFile, O: Sink, E: Sink>(
     ensures standard { names_profile (form_of (texts_of words.now)) ≡ false → SlotStays (F.slots files.old).profile (F.slots files.new).profile }
     ensures names { (result ≡ Status.InputFault → ⊥) → StraysStay (F.directory files.new) (F.strays files.old) (F.strays files.new) }
     ensures stray { result ≡ Status.InputFault → FailsByName (form_of (texts_of words.now)) (F.directory files.new) (F.last files.new) (F.strays files.old) (F.strays files.new) }
-    ensures demo {
-        let before : Seen = record { files = F.faults files.old; last = F.last files.old; strays = F.strays files.old; directory = F.directory files.old; slots = F.slots files.old;
-            regs = R.faults regs.old; dims = R.dims regs.old; cells = R.contents regs.old; calls = R.calls regs.old; out = O.faults out.old; sent = O.sent out.old } in
-        let after : Seen = record { files = F.faults files.new; last = F.last files.new; strays = F.strays files.new; directory = F.directory files.new; slots = F.slots files.new;
-            regs = R.faults regs.new; dims = R.dims regs.new; cells = R.contents regs.new; calls = R.calls regs.new; out = O.faults out.new; sent = O.sent out.new } in
+    ensures demo { let before : Seen = record {
+      files = F.faults files.old;
+      last = F.last files.old;
+      strays = F.strays files.old;
+      directory = F.directory files.old;
+      slots = F.slots files.old;
+      regs = R.faults regs.old;
+      dims = R.dims regs.old;
+      cells = R.contents regs.old;
+      calls = R.calls regs.old;
+      out = O.faults out.old;
+      sent = O.sent out.old;
+    } in
+        let after : Seen = record {
+          files = F.faults files.new;
+          last = F.last files.new;
+          strays = F.strays files.new;
+          directory = F.directory files.new;
+          slots = F.slots files.new;
+          regs = R.faults regs.new;
+          dims = R.dims regs.new;
+          cells = R.contents regs.new;
+          calls = R.calls regs.new;
+          out = O.faults out.new;
+          sent = O.sent out.new;
+        } in
         LeavesFiles (form_of (texts_of words.now)) result before after }
     ensures message { SendsItsMessage result (E.faults err.old) (E.faults err.new) (E.sent err.old) (E.sent err.new) }
 {
@@ -102,11 +228,32 @@ fn execute<F: Files, M: Machine, R: RegFile, O: Sink>(
     regs: &mut R,
     out: &mut O,
 ) -> Result<(), Stop>
-    ensures promises {
-        let before : Seen = record { files = F.faults files.old; last = F.last files.old; strays = F.strays files.old; directory = F.directory files.old; slots = F.slots files.old;
-            regs = R.faults regs.old; dims = R.dims regs.old; cells = R.contents regs.old; calls = R.calls regs.old; out = O.faults out.old; sent = O.sent out.old } in
-        let after : Seen = record { files = F.faults files.new; last = F.last files.new; strays = F.strays files.new; directory = F.directory files.new; slots = F.slots files.new;
-            regs = R.faults regs.new; dims = R.dims regs.new; cells = R.contents regs.new; calls = R.calls regs.new; out = O.faults out.new; sent = O.sent out.new } in
+    ensures promises { let before : Seen = record {
+      files = F.faults files.old;
+      last = F.last files.old;
+      strays = F.strays files.old;
+      directory = F.directory files.old;
+      slots = F.slots files.old;
+      regs = R.faults regs.old;
+      dims = R.dims regs.old;
+      cells = R.contents regs.old;
+      calls = R.calls regs.old;
+      out = O.faults out.old;
+      sent = O.sent out.old;
+    } in
+        let after : Seen = record {
+          files = F.faults files.new;
+          last = F.last files.new;
+          strays = F.strays files.new;
+          directory = F.directory files.new;
+          slots = F.slots files.new;
+          regs = R.faults regs.new;
+          dims = R.dims regs.new;
+          cells = R.contents regs.new;
+          calls = R.calls regs.new;
+          out = O.faults out.new;
+          sent = O.sent out.new;
+        } in
         Promises M.rules M.lays (form_of (texts_of words.now)) result before after }
     ensures standard { names_profile (form_of (texts_of words.now)) ≡ false → SlotStays (F.slots files.old).profile (F.slots files.new).profile }
 {
@@ -127,10 +274,32 @@ fn demo<M: Machine, R: RegFile, O: Sink>(
 ) -> Result<(), Stop>
     requires { count ≤ 1000000 }
     ensures promises { (files last strays : ℕ) (directory : Directory) (slots : Slots) →
-        let before : Seen = record { files = files; last = last; strays = strays; directory = directory; slots = slots;
-            regs = R.faults regs.old; dims = R.dims regs.old; cells = R.contents regs.old; calls = R.calls regs.old; out = O.faults out.old; sent = O.sent out.old } in
-        let after : Seen = record { files = files; last = last; strays = strays; directory = directory; slots = slots;
-            regs = R.faults regs.new; dims = R.dims regs.new; cells = R.contents regs.new; calls = R.calls regs.new; out = O.faults out.new; sent = O.sent out.new } in
+        let before : Seen = record {
+          files = files;
+          last = last;
+          strays = strays;
+          directory = directory;
+          slots = slots;
+          regs = R.faults regs.old;
+          dims = R.dims regs.old;
+          cells = R.contents regs.old;
+          calls = R.calls regs.old;
+          out = O.faults out.old;
+          sent = O.sent out.old;
+        } in
+        let after : Seen = record {
+          files = files;
+          last = last;
+          strays = strays;
+          directory = directory;
+          slots = slots;
+          regs = R.faults regs.new;
+          dims = R.dims regs.new;
+          cells = R.contents regs.new;
+          calls = R.calls regs.new;
+          out = O.faults out.new;
+          sent = O.sent out.new;
+        } in
         Promises M.rules M.lays (Demo seed count) result before after }
 {
     let names = Names {
@@ -152,11 +321,32 @@ fn replay<F: Files, M: Machine, R: RegFile, O: Sink>(
     regs: &mut R,
     out: &mut O,
 ) -> Result<(), Stop>
-    ensures promises {
-        let before : Seen = record { files = F.faults files.old; last = F.last files.old; strays = F.strays files.old; directory = F.directory files.old; slots = F.slots files.old;
-            regs = R.faults regs.old; dims = R.dims regs.old; cells = R.contents regs.old; calls = R.calls regs.old; out = O.faults out.old; sent = O.sent out.old } in
-        let after : Seen = record { files = F.faults files.new; last = F.last files.new; strays = F.strays files.new; directory = F.directory files.new; slots = F.slots files.new;
-            regs = R.faults regs.new; dims = R.dims regs.new; cells = R.contents regs.new; calls = R.calls regs.new; out = O.faults out.new; sent = O.sent out.new } in
+    ensures promises { let before : Seen = record {
+      files = F.faults files.old;
+      last = F.last files.old;
+      strays = F.strays files.old;
+      directory = F.directory files.old;
+      slots = F.slots files.old;
+      regs = R.faults regs.old;
+      dims = R.dims regs.old;
+      cells = R.contents regs.old;
+      calls = R.calls regs.old;
+      out = O.faults out.old;
+      sent = O.sent out.old;
+    } in
+        let after : Seen = record {
+          files = F.faults files.new;
+          last = F.last files.new;
+          strays = F.strays files.new;
+          directory = F.directory files.new;
+          slots = F.slots files.new;
+          regs = R.faults regs.new;
+          dims = R.dims regs.new;
+          cells = R.contents regs.new;
+          calls = R.calls regs.new;
+          out = O.faults out.new;
+          sent = O.sent out.new;
+        } in
         Promises M.rules M.lays (Replay names.entry.profile.now names.entry.script.now names.entry.capture.now) result before after }
     ensures standard { is_standard names.entry.profile.now ≡ true → SlotStays (F.slots files.old).profile (F.slots files.new).profile }
     ensures directory { DirectoryStays (F.directory files.old) (F.directory files.new) }

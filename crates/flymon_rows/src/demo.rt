@@ -31,7 +31,13 @@ end\n";
 
 /// A demo where no file was handed in.
 fn demo_over(alloc: Global, words: &str) -> Result<Ending, AllocError> {
-    run_over(alloc, words, Vec::new(alloc), &mut RamFile::new(), DEMO_LIMITS)
+    run_over(
+        alloc,
+        words,
+        Vec::new(alloc),
+        &mut RamFile::new(),
+        DEMO_LIMITS,
+    )
 }
 
 #[test]
@@ -85,7 +91,10 @@ fn cells_in(text: &str) -> u64 {
     let mut cells = 0u64;
     'lines: for line in text.lines() {
         if line.starts_with("size ") {
-            let count = line.split_whitespace().last().and_then(|word| word.parse::<u64>().ok());
+            let count = line
+                .split_whitespace()
+                .last()
+                .and_then(|word| word.parse::<u64>().ok());
             cells = cells.saturating_add(count.unwrap_or(0));
         }
     }

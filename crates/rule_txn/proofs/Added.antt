@@ -76,7 +76,7 @@ is_added os state capacity task bits slots plans =
     let kept : IsSwitch os state capacity = plans.kept in
     let verdict = judged_plan os state task bits (Ok (there slots)) kept.stands plans.new plans.size plans.plan in
     let later : Sound geometry (os ++ new_outline task (new_rows os state task slots) ∷ []) =
-      sound_changed geometry os (Add task) (Push task (new_rows os state task slots)) kept.limits plans.allowed kept.sound verdict in
+    sound_changed geometry os (Add task) (Push task (new_rows os state task slots)) kept.limits plans.allowed kept.sound verdict in
     let found = placed_accepted geometry (sight_of geometry os) task bits (there slots) (sym (plan_same os state task bits kept.stands) ∙ sym plans.plan) in
     let few = few_records geometry (os ++ new_outline task (new_rows os state task slots) ∷ []) later in
     let long = length-append os (new_outline task (new_rows os state task slots) ∷ []) in
@@ -85,7 +85,8 @@ is_added os state capacity task bits slots plans =
       judged_is = verdict;
       all = adds os state task bits slots kept.limits kept.stands found later;
       later = later;
-      room = omega (arith, few, long, most) }
+      room = omega (arith, few, long, most);
+    }
 
 -- ---- what the stage is asked, by what its calls gave
 
@@ -101,20 +102,22 @@ pub settling : (os : List Outline) (state : State) (task : Sketch) (bits : ℕ) 
 settling os state task bits slots rows stage served arrays leases all_ s a l st =
     let is = l ∙ ap (fresh_leases bits state.pools) a in
     subst (λ (x : State). Settling x task served leases) (sym st)
-      (subst (λ ys. Settling (record state { pools = taken leases state.pools }) task ys leases) (sym s)
-        (subst (λ xs. Settling (record state { pools = taken xs state.pools }) task (map (served_on state.geometry state.groups task.key) slots) xs) (sym is)
-          (record { served_ = all_.served; units = all_.serve; entries = all_.settle })))
+    (subst (λ ys. Settling (record state { pools = taken leases state.pools }) task ys leases) (sym s)
+    (subst (λ xs. Settling (record state { pools = taken xs state.pools }) task (map (served_on state.geometry state.groups task.key) slots) xs) (sym is)
+    (record { served_ = all_.served; units = all_.serve; entries = all_.settle })))
 
 abbrev pub settled_state : State → Sketch → List (Option Lent) → List (Option Row) → State
 settled_state state task leases rows = record state {
   pools = taken leases state.pools;
   tables = with_rows task first_turn state.tables rows;
-  groups = with_uses state.geometry task.key state.groups rows }
+  groups = with_uses state.geometry task.key state.groups rows;
+}
 
 abbrev pub settled_on : Sketch → List (Option Row) → State → State
 settled_on task rows stage = record stage {
   tables = with_rows task first_turn stage.tables rows;
-  groups = with_uses stage.geometry task.key stage.groups rows }
+  groups = with_uses stage.geometry task.key stage.groups rows;
+}
 
 pub added_switch : (os : List Outline) (state : State) (capacity : ℕ) (task : Sketch) (bits : ℕ) (slots : List (Option Place))
     (served : List (Option Served)) (arrays : List (Option ℕ)) (leases : List (Option Lent)) (rows : List (Option Row)) (stage last : State) (items : List Outline) (room : ℕ)
@@ -131,12 +134,13 @@ added_switch os state capacity task bits slots served arrays leases rows stage l
     let leases_are : leases ≡ xs = l ∙ ap (fresh_leases bits state.pools) a in
     let rows_are : rows ≡ leased_rows (map (served_on geometry state.groups task.key) slots) 0 xs = r ∙ ap₂ (λ ys zs. leased_rows ys 0 zs) s leases_are in
     let now : last ≡ settled_state state task xs (leased_rows (map (served_on geometry state.groups task.key) slots) 0 xs) =
-      la ∙ ap (settled_on task rows) st ∙ ap₂ (settled_state state task) leases_are rows_are in
+    la ∙ ap (settled_on task rows) st ∙ ap₂ (settled_state state task) leases_are rows_are in
     let list : items ≡ os ++ new_outline task (new_rows os state task slots) ∷ [] =
-      it ∙ ap (λ rs. os ++ new_outline task rs ∷ []) (ap there rows_are ∙ one.all.leased) in
+    it ∙ ap (λ rs. os ++ new_outline task rs ∷ []) (ap there rows_are ∙ one.all.leased) in
     let new : IsSwitch (os ++ new_outline task (new_rows os state task slots) ∷ []) (settled_state state task xs (leased_rows (map (served_on geometry state.groups task.key) slots) 0 xs)) capacity =
-      record { limits = kept.limits; sound = one.later; stands = one.all.stands; room = kept.room } in
-    (subst (λ n. IsSwitch items last n) (sym ro)
-      (subst (λ (x : State). IsSwitch items x capacity) (sym now)
-        (subst (λ ys. IsSwitch ys (settled_state state task xs (leased_rows (map (served_on geometry state.groups task.key) slots) 0 xs)) capacity) (sym list) new)),
-    list)
+    record { limits = kept.limits; sound = one.later; stands = one.all.stands; room = kept.room } in (
+      subst (λ n. IsSwitch items last n) (sym ro)
+          (subst (λ (x : State). IsSwitch items x capacity) (sym now)
+          (subst (λ ys. IsSwitch ys (settled_state state task xs (leased_rows (map (served_on geometry state.groups task.key) slots) 0 xs)) capacity) (sym list) new)),
+      list,
+    )

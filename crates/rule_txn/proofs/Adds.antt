@@ -59,17 +59,18 @@ leased_beside : {X : Type 0} (f : X → Option Served) (g : X → Option Lent) (
 leased_beside f g pre [] = refl
 leased_beside f g pre (x ∷ xs) =
     ap₂ (λ served rest. leased_row served (g x) ∷ rest) (here_at pre (map f xs) (f x) None)
-      (ap₂ (λ ss k. leased_rows ss k (map g xs)) (sym (append_assoc pre (f x ∷ []) (map f xs))) (length_more pre (f x))
-      ∙ leased_beside f g (pre ++ f x ∷ []) xs)
+    (ap₂ (λ ss k. leased_rows ss k (map g xs)) (sym (append_assoc pre (f x ∷ []) (map f xs))) (length_more pre (f x))
+    ∙ leased_beside f g (pre ++ f x ∷ []) xs)
 
 served_beside : {X : Type 0} (f : X → Option Served) (g : X → Option Lent) (pre : List (Option Served)) (xs : List X) → All (λ x. IsServed (f x) (g x)) xs
     → AreServed (pre ++ map f xs) (length pre) (map g xs)
 served_beside f g pre [] each = tt
-served_beside f g pre (x ∷ xs) each =
-    (subst (λ served. IsServed served (g x)) (sym (here_at pre (map f xs) (f x) None)) (All-head (λ y. IsServed (f y) (g y)) x xs each),
-      subst (λ ss. AreServed ss (length pre + 1) (map g xs)) (append_assoc pre (f x ∷ []) (map f xs))
-        (subst (λ k. AreServed ((pre ++ f x ∷ []) ++ map f xs) k (map g xs)) (sym (length_more pre (f x)))
-          (served_beside f g (pre ++ f x ∷ []) xs (All-tail (λ y. IsServed (f y) (g y)) x xs each))))
+served_beside f g pre (x ∷ xs) each = (
+  subst (λ served. IsServed served (g x)) (sym (here_at pre (map f xs) (f x) None)) (All-head (λ y. IsServed (f y) (g y)) x xs each),
+  subst (λ ss. AreServed ss (length pre + 1) (map g xs)) (append_assoc pre (f x ∷ []) (map f xs))
+      (subst (λ k. AreServed ((pre ++ f x ∷ []) ++ map f xs) k (map g xs)) (sym (length_more pre (f x)))
+      (served_beside f g (pre ++ f x ∷ []) xs (All-tail (λ y. IsServed (f y) (g y)) x xs each))),
+)
 
 -- ---- one place
 
@@ -109,8 +110,8 @@ takes_keys geometry os key array keys lt exist =
     let f : ℕ → UnitMask = λ unit. record { unit = unit; mask = mask_in key (unit_at units unit) } in
     let seen : units ≡ units_on geometry (all_uses geometry os) g = units_seen geometry os array lt in
     All-map (TakesKey key us) f (units_in keys)
-      (All-weaker (λ unit. unit < units_count geometry g) (λ unit. TakesKey key us (f unit))
-        (λ unit within none. ap (mask_in key) (ap (λ u. unit_at u unit) seen ∙ unit_seen (units_count geometry g) us unit within ∙ ap used_from none)) (units_in keys) exist)
+    (All-weaker (λ unit. unit < units_count geometry g) (λ unit. TakesKey key us (f unit))
+    (λ unit within none. ap (mask_in key) (ap (λ u. unit_at u unit) seen ∙ unit_seen (units_count geometry g) us unit within ∙ ap used_from none)) (units_in keys) exist)
 
 -- ---- the whole
 
@@ -150,15 +151,15 @@ leases_are geometry os pools task bits (None ∷ slots) e each = ap (λ xs. None
 leases_are geometry os pools task bits (Some place ∷ slots) e each =
     let is = All-head (Planned geometry os task bits) place (there slots) each in
     ap₂ (λ x xs. x ∷ xs) (gives_region geometry os pools bits place.array place.region e is.exists is.on.region_is).1
-      (leases_are geometry os pools task bits slots e (All-tail (Planned geometry os task bits) place (there slots) each))
+    (leases_are geometry os pools task bits slots e (All-tail (Planned geometry os task bits) place (there slots) each))
 
 give_all : (geometry : Geometry) (os : List Outline) (pools : List PoolState) (task : Sketch) (bits : ℕ) (slots : List (Option Place)) → pools ≡ pools_for geometry (all_held os)
     → All (Planned geometry os task bits) (there slots) → All (Gives bits pools) (there (map place_array slots))
 give_all geometry os pools task bits slots e each =
     subst (All (Gives bits pools)) (sym (there_map (λ (p : Place). p.array) slots))
-      (All-map (Gives bits pools) (λ (p : Place). p.array) (there slots)
-        (All-weaker (Planned geometry os task bits) (λ (p : Place). Gives bits pools p.array)
-          (λ p is. (gives_region geometry os pools bits p.array p.region e is.exists is.on.region_is).0) (there slots) each))
+    (All-map (Gives bits pools) (λ (p : Place). p.array) (there slots)
+    (All-weaker (Planned geometry os task bits) (λ (p : Place). Gives bits pools p.array)
+    (λ p is. (gives_region geometry os pools bits p.array p.region e is.exists is.on.region_is).0) (there slots) each))
 
 rows_are : (geometry : Geometry) (os : List Outline) (groups : Groups) (task : Sketch) (bits : ℕ) (slots : List (Option Place)) → groups ≡ groups_for geometry (all_uses geometry os)
     → All (Planned geometry os task bits) (there slots)
@@ -169,7 +170,7 @@ rows_are geometry os groups task bits (None ∷ slots) e each = rows_are geometr
 rows_are geometry os groups task bits (Some place ∷ slots) e each =
     let is = All-head (Planned geometry os task bits) place (there slots) each in
     ap (λ x. there (x ∷ map (λ (s : Option Place). leased_row (served_on geometry groups task.key s) (option_map (λ (p : Place). lent p.array p.region) s)) slots))
-      (row_is geometry os groups task place e is.exists)
+    (row_is geometry os groups task place e is.exists)
     ∙ ap (λ rs. row_at geometry (sight_of geometry os) task place ∷ rs) (rows_are geometry os groups task bits slots e (All-tail (Planned geometry os task bits) place (there slots) each))
 
 all_served : (geometry : Geometry) (groups : Groups) (key : List ℕ) (slots : List (Option Place))
@@ -206,7 +207,8 @@ pub record Adds (os : List Outline) (state : State) (task : Sketch) (bits : ℕ)
   pub stands : Stands (os ++ new_outline task rows ∷ []) (record state {
     pools = taken (fresh_leases bits state.pools (map place_array slots)) state.pools;
     tables = with_rows task first_turn state.tables (leased_rows (map (served_on state.geometry state.groups task.key) slots) 0 (fresh_leases bits state.pools (map place_array slots)));
-    groups = with_uses state.geometry task.key state.groups (leased_rows (map (served_on state.geometry state.groups task.key) slots) 0 (fresh_leases bits state.pools (map place_array slots))) })
+    groups = with_uses state.geometry task.key state.groups (leased_rows (map (served_on state.geometry state.groups task.key) slots) 0 (fresh_leases bits state.pools (map place_array slots)));
+  })
 
 pub adds : (os : List Outline) (state : State) (task : Sketch) (bits : ℕ) (slots : List (Option Place)) → IsGeometry state.geometry → Stands os state
     → ArePlaces state.geometry (sight_of state.geometry os) task bits (there slots)
@@ -222,9 +224,9 @@ adds os state task bits slots good stands found later =
     let f : Option Place → Option Served = served_on geometry state.groups task.key in
     let g : Option Place → Option Lent = option_map (λ (p : Place). lent p.array p.region) in
     let different : AllPairs (λ (a b : ℕ). a ≢ b) (there (map place_array slots)) =
-      subst (AllPairs (λ (a b : ℕ). a ≢ b)) (sym (there_map (λ (p : Place). p.array) slots))
-        (pairs_map (λ (a b : ℕ). a ≢ b) (λ (p : Place). p.array) (there slots)
-          (pairs_weaker (λ (one two : Place). one.array < two.array) (λ (one two : Place). one.array ≢ two.array) (λ one two less same. omega (arith, less, same)) (there slots) found.rise)) in
+    subst (AllPairs (λ (a b : ℕ). a ≢ b)) (sym (there_map (λ (p : Place). p.array) slots))
+    (pairs_map (λ (a b : ℕ). a ≢ b) (λ (p : Place). p.array) (there slots)
+    (pairs_weaker (λ (one two : Place). one.array < two.array) (λ (one two : Place). one.array ≢ two.array) (λ one two less same. omega (arith, less, same)) (there slots) found.rise)) in
     let can = can_take bits state.pools (map place_array slots) (give_all geometry os state.pools task bits slots stands.pools each) different in
     let xs : List (Option Lent) = fresh_leases bits state.pools (map place_array slots) in
     let xs_are : xs ≡ map g slots = can.1 ∙ leases_are geometry os state.pools task bits slots stands.pools each in
@@ -232,31 +234,32 @@ adds os state task bits slots good stands found later =
     let ss_are : ss ≡ map (λ (s : Option Place). leased_row (f s) (g s)) slots = ap (leased_rows (map f slots) 0) xs_are ∙ leased_beside f g [] slots in
     let rows_there : there ss ≡ rows = ap there ss_are ∙ rows_are geometry os state.groups task bits slots stands.groups each in
     let fresh : held_of xs ≡ map live_holding rows =
-      ap held_of xs_are ∙ ap (map holding_of) (there_map (λ (p : Place). lent p.array p.region) slots) ∙ places_held geometry sight task (there slots) in
+    ap held_of xs_are ∙ ap (map holding_of) (there_map (λ (p : Place). lent p.array p.region) slots) ∙ places_held geometry sight task (there slots) in
     let held : held_of xs ++ [] ≡ held_by o = append-nil (held_of xs) ∙ fresh ∙ sym (held_new geometry sight task (there slots)) in
     let whole : all_held (os ++ o ∷ []) ≡ all_held os ++ (held_of xs ++ []) = held_pushed os o ∙ ap (λ hs. all_held os ++ hs) (sym held) in
     let pools : taken xs state.pools ≡ pools_for geometry (all_held (os ++ o ∷ [])) =
-      takes geometry (all_held os) [] xs state.pools (stands.pools ∙ ap (pools_for geometry) (sym (append-nil (all_held os))))
-        (subst (All (λ (h : Holding). h.array < array_count geometry)) (sym fresh)
-          (All-weaker (IsHeld geometry) (λ (h : Holding). h.array < array_count geometry) (λ h k. k.array) (map live_holding rows) (live_held geometry o rows is.each)))
-        (subst (AllPairs Differ) whole (pairs_weaker ShareNone Differ (λ x y s. share_differ x y s) (all_held (os ++ o ∷ [])) later.regions))
-      ∙ ap (pools_for geometry) (sym whole) in
+    takes geometry (all_held os) [] xs state.pools (stands.pools ∙ ap (pools_for geometry) (sym (append-nil (all_held os))))
+    (subst (All (λ (h : Holding). h.array < array_count geometry)) (sym fresh)
+    (All-weaker (IsHeld geometry) (λ (h : Holding). h.array < array_count geometry) (λ h k. k.array) (map live_holding rows) (live_held geometry o rows is.each)))
+    (subst (AllPairs Differ) whole (pairs_weaker ShareNone Differ (λ x y s. share_differ x y s) (all_held (os ++ o ∷ [])) later.regions))
+    ∙ ap (pools_for geometry) (sym whole) in
     let entries = enters geometry os [] o ss state.tables later rows_there (stands.tables ∙ ap (tables_for geometry) (sym (no_spots os))) in
     let new : All (IsNew geometry task.key (all_uses geometry os)) rows =
-      All-map (IsNew geometry task.key (all_uses geometry os)) (row_at geometry sight task) (there slots)
-        (λ k d lt.
-          let p : Place = get_or (there slots) k d in
-          let planned : Planned geometry os task bits p = each k d lt in
-          let row = row_at geometry sight task p in
-          record {
-            has = row_has geometry sight task p planned.exists (planned_units geometry os task bits p planned);
-            new = takes_keys geometry os task.key p.array p.keys planned.exists (planned_units geometry os task bits p planned) }) in
+    All-map (IsNew geometry task.key (all_uses geometry os)) (row_at geometry sight task) (there slots)
+    (λ k d lt.
+    let p : Place = get_or (there slots) k d in
+    let planned : Planned geometry os task bits p = each k d lt in
+    let row = row_at geometry sight task p in
+    record {
+      has = row_has geometry sight task p planned.exists (planned_units geometry os task bits p planned);
+      new = takes_keys geometry os task.key p.array p.keys planned.exists (planned_units geometry os task bits p planned);
+    }) in
     let finds : All (Finds geometry task.key state.groups) rows =
-      All-map (Finds geometry task.key state.groups) (row_at geometry sight task) (there slots)
-        (λ k d lt.
-          let p : Place = get_or (there slots) k d in
-          let planned : Planned geometry os task bits p = each k d lt in
-          ap (λ us. keys_for us task.key) (units_shown geometry os state.groups p.array stands.groups planned.exists) ∙ planned.on.keys_are) in
+    All-map (Finds geometry task.key state.groups) (row_at geometry sight task) (there slots)
+    (λ k d lt.
+    let p : Place = get_or (there slots) k d in
+    let planned : Planned geometry os task bits p = each k d lt in
+    ap (λ us. keys_for us task.key) (units_shown geometry os state.groups p.array stands.groups planned.exists) ∙ planned.on.keys_are) in
     let units = uses_enter geometry os [] o ss state.groups good later rows_there (stands.groups ∙ ap (groups_for geometry) (sym (no_uses_behind geometry os))) new finds in
     record {
       places = are_places geometry state.groups slots (All-weaker (Planned geometry os task bits) (IsPlace geometry state.groups) (λ p h. planned_is_place geometry os state.groups task bits p stands.groups h) (there slots) each);
@@ -267,21 +270,25 @@ adds os state task bits slots good stands found later =
       leased = rows_there;
       serve = units.0;
       settle = entries.0;
-      stands = record { pools = pools; tables = entries.1; groups = units.1 } }
+      stands = record { pools = pools; tables = entries.1; groups = units.1 };
+    }
   where
     places_held : (geometry : Geometry) (sight : Sight) (task : Sketch) (places : List Place)
         → map holding_of (map (λ (p : Place). lent p.array p.region) places) ≡ map live_holding (map (row_at geometry sight task) places)
     places_held geometry sight task [] = refl
     places_held geometry sight task (p ∷ places) = ap (λ hs. live_holding (row_at geometry sight task p) ∷ hs) (places_held geometry sight task places)
+
     units_named : (units : List (Option UsedUnit)) (key : List ℕ) (keys : KeyUse) → map (λ (u : UnitMask). u.unit) (masks_for units key keys) ≡ units_in keys
     units_named units key (uses.Single unit) = refl
     units_named units key (uses.Pair one two) = refl
+
     row_has : (geometry : Geometry) (sight : Sight) (task : Sketch) (p : Place) → p.array < array_count geometry
         → All (λ unit. unit < units_count geometry (group_number geometry p.array)) (units_in p.keys) → HasUnits geometry (row_at geometry sight task p)
     row_has geometry sight task p lt exist =
-      let units = units_at geometry sight p.array in
-      record {
-        array = lt;
-        units = units_named units task.key p.keys;
-        exist = All-map (λ (u : UnitMask). u.unit < units_count geometry (group_number geometry p.array))
-          (λ unit. (let m : UnitMask = record { unit = unit; mask = mask_in task.key (unit_at units unit) } in m)) (units_in p.keys) exist }
+        let units = units_at geometry sight p.array in
+        record {
+          array = lt;
+          units = units_named units task.key p.keys;
+          exist = All-map (λ (u : UnitMask). u.unit < units_count geometry (group_number geometry p.array))
+              (λ unit. (let m : UnitMask = record { unit = unit; mask = mask_in task.key (unit_at units unit) } in m)) (units_in p.keys) exist;
+        }

@@ -59,21 +59,21 @@ pair_same units m key k used =
     let new = served key (unit_at units k) in
     let long : length (set units k new) ≡ length units = length-set units k new in
     let test : (i j : ℕ) → xor_to m (unit_at (set units k new) i) (unit_at (set units k new) j) ≡ xor_to m (unit_at units i) (unit_at units j) =
-      λ i j. still_at (λ o. xor_to m o (unit_at (set units k new) j)) units k new (same_xor m key (unit_at units k) (unit_at (set units k new) j) used) i
-        ∙ still_at (λ o. xor_to m (unit_at units i) o) units k new (same_xor_second m key (unit_at units i) (unit_at units k) used) j in
+    λ i j. still_at (λ o. xor_to m o (unit_at (set units k new) j)) units k new (same_xor m key (unit_at units k) (unit_at (set units k new) j) used) i
+    ∙ still_at (λ o. xor_to m (unit_at units i) o) units k new (same_xor_second m key (unit_at units i) (unit_at units k) used) j in
     ap (λ n. option_map (λ (pair : ℕ × ℕ). Pair pair.0 pair.1)
-      (find (λ (pair : ℕ × ℕ). xor_to m (unit_at (set units k new) pair.0) (unit_at (set units k new) pair.1)) (pairs_of (range_with_len 0 n)))) long
+    (find (λ (pair : ℕ × ℕ). xor_to m (unit_at (set units k new) pair.0) (unit_at (set units k new) pair.1)) (pairs_of (range_with_len 0 n)))) long
     ∙ ap (option_map (λ (pair : ℕ × ℕ). Pair pair.0 pair.1))
-      (find_ext (λ (pair : ℕ × ℕ). xor_to m (unit_at (set units k new) pair.0) (unit_at (set units k new) pair.1)) (λ (pair : ℕ × ℕ). xor_to m (unit_at units pair.0) (unit_at units pair.1))
-        (λ (pair : ℕ × ℕ). test pair.0 pair.1) (pairs_of (range_with_len 0 (length units))))
+    (find_ext (λ (pair : ℕ × ℕ). xor_to m (unit_at (set units k new) pair.0) (unit_at (set units k new) pair.1)) (λ (pair : ℕ × ℕ). xor_to m (unit_at units pair.0) (unit_at units pair.1))
+    (λ (pair : ℕ × ℕ). test pair.0 pair.1) (pairs_of (range_with_len 0 (length units))))
 
 keys_same : (units : List (Option UsedUnit)) (m key : List ℕ) (k : ℕ) → is_free (unit_at units k) ≡ false → keys_for (served_at key units k) m ≡ keys_for units m
 unfolding keys_for
 keys_same units m key k used =
     let new = served key (unit_at units k) in
     ap₂ (λ known free. option_or (option_map Single known) (option_or (pair_for (set units k new) m) (option_map Single free)))
-      (position_same (has_mask m) (set units k new) units (still_map (has_mask m) units k new (same_mask m key (unit_at units k) used)))
-      (position_same is_free (set units k new) units (still_map is_free units k new (same_free key (unit_at units k) used)))
+    (position_same (has_mask m) (set units k new) units (still_map (has_mask m) units k new (same_mask m key (unit_at units k) used)))
+    (position_same is_free (set units k new) units (still_map is_free units k new (same_free key (unit_at units k) used)))
     ∙ ap (λ pair. option_or (option_map Single (position (has_mask m) units)) (option_or pair (option_map Single (position is_free units)))) (pair_same units m key k used)
 
 -- ---- a free one
@@ -87,9 +87,9 @@ first_now {X} p (x ∷ xs) (suc k) y lt none hit = by (first_now p xs k y (omega
         → cond (not (p x)) (1 + position_or_len p (set xs k y)) 0 ≡ suc k
     by rest true e g = absurd (omega arith)
     by rest false e g =
-      let all_ : position_or_len p xs ≡ length xs = omega arith in
-      let n = rest all_ hit in
-      ap (λ b. cond (not b) (1 + position_or_len p (set xs k y)) 0) e ∙ (let s : 1 + position_or_len p (set xs k y) ≡ suc k = omega arith in s)
+        let all_ : position_or_len p xs ≡ length xs = omega arith in
+        let n = rest all_ hit in
+        ap (λ b. cond (not b) (1 + position_or_len p (set xs k y)) 0) e ∙ (let s : 1 + position_or_len p (set xs k y) ≡ suc k = omega arith in s)
 
 position_is : {X : Type 0} (p : X → Bool) (xs : List X) (k : ℕ) → k < length xs → position_or_len p xs ≡ k → position p xs ≡ Some k
 position_is p xs k lt e =
@@ -110,8 +110,8 @@ fresh_again units key k none free =
     let at = position-Some is_free units k None free in
     let new = served key (unit_at units k) in
     let first : position (has_mask key) (set units k new) ≡ Some k =
-      position_is (has_mask key) (set units k new) k (let n = length-set units k new in let small = at.0 in omega arith)
-        (first_now (has_mask key) units k new at.0 (sym (position_none (has_mask key) units (sym none))) (now_known key (unit_at units k) at.1)) in
+    position_is (has_mask key) (set units k new) k (let n = length-set units k new in let small = at.0 in omega arith)
+    (first_now (has_mask key) units k new at.0 (sym (position_none (has_mask key) units (sym none))) (now_known key (unit_at units k) at.1)) in
     ap (λ o. option_or (option_map Single o) (option_or (pair_for (set units k new) key) (option_map Single (position is_free (set units k new))))) first
 
 -- ---- all three cases
@@ -133,14 +133,15 @@ pub keys_again : (units : List (Option UsedUnit)) (key : List ℕ) (keys : KeyUs
     → keys_for (served_units units keys key) key ≡ Some keys
 unfolding served_units
 keys_again units key keys found = of_found P units key keys found (record {
-    known = λ unit known is. keys_same units key key unit (known_used key (unit_at units unit) (position-Some (has_mask key) units unit None known).1) ∙ is;
-    pair = λ one two order within passes is.
+  known = λ unit known is. keys_same units key key unit (known_used key (unit_at units unit) (position-Some (has_mask key) units unit None known).1) ∙ is;
+  pair = λ one two order within passes is.
       (let used = first_used key (unit_at units one) (unit_at units two) passes in
       let other = second_used key (unit_at units one) (unit_at units two) passes in
       let new = served key (unit_at units one) in
       keys_same (served_at key units one) key key two (still_at is_free units one new (same_free key (unit_at units one) used) two ∙ other)
       ∙ keys_same units key key one used ∙ is);
-    fresh = λ unit none free is. fresh_again units key unit none free }) found
+  fresh = λ unit none free is. fresh_again units key unit none free;
+}) found
   where
     P : KeyUse → Type 0
     P k = keys_for units key ≡ Some k → keys_for (served_units units k key) key ≡ Some k

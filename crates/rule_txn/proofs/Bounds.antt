@@ -99,7 +99,7 @@ entries_within (o ∷ os) a =
     let rest = entries_within os a in
     let own = own_entries o a in
     let one = rules_are (spots_by o ++ flat_map spots_by os) a ∙ count_map (λ (h : Holding). h.array == a) spot_holding (spots_by o ++ flat_map spots_by os)
-      ∙ count_append (λ (s : Spot). s.array == a) (spots_by o) (flat_map spots_by os) in
+    ∙ count_append (λ (s : Spot). s.array == a) (spots_by o) (flat_map spots_by os) in
     let two = rules_are (spots_by o) a ∙ count_map (λ (h : Holding). h.array == a) spot_holding (spots_by o) in
     let three = rules_are (flat_map spots_by os) a ∙ count_map (λ (h : Holding). h.array == a) spot_holding (flat_map spots_by os) in
     let four = count_append (λ (h : Holding). h.array == a) (held_by o) (flat_map held_by os) in
@@ -133,7 +133,7 @@ few_records geometry os sound =
     let held = all_held os in
     let place : Holding → ℕ = λ h. h.array in
     let inside : All (λ h. in_range place 0 (array_count geometry) h ≡ true) held =
-      All-weaker (IsHeld geometry) (λ h. in_range place 0 (array_count geometry) h ≡ true) (λ h is. (let lt = is.array in grind (arith, nat_tests))) held (all_are_held geometry os sound) in
+    All-weaker (IsHeld geometry) (λ h. in_range place 0 (array_count geometry) h ≡ true) (λ h is. (let lt = is.array in grind (arith, nat_tests))) held (all_are_held geometry os sound) in
     let whole = count_true (in_range place 0 (array_count geometry)) held inside in
     let most = in_places place 0 (array_count geometry) (2 ^ geometry.split) held (few_held geometry os sound) in
     let records = records_within geometry os sound.tasks in
@@ -151,7 +151,7 @@ own_uses_few : (geometry : Geometry) (row : Row) (g unit : ℕ) → map unit_of 
 own_uses_few geometry row g unit are true e =
     let same : group_of geometry row ≡ g = grind (arith, nat_tests) in
     let own : group_uses (row_uses geometry row) g ≡ map (use_in (group_of geometry row)) row.masks =
-      ap (group_uses (row_uses geometry row)) (sym same) ∙ own_uses (group_of geometry row) row.masks in
+    ap (group_uses (row_uses geometry row)) (sym same) ∙ own_uses (group_of geometry row) row.masks in
     let few = count_within (λ (u : GroupUse). u.unit == unit) (map (use_in (group_of geometry row)) row.masks) in
     let is = ap (λ us. length (unit_uses us unit)) own in
     let long = length_map (use_in (group_of geometry row)) row.masks in
@@ -171,7 +171,7 @@ rows_uses_few : (geometry : Geometry) (rows : List Row) (g unit : ℕ) → All (
 rows_uses_few geometry [] g unit are = omega arith
 rows_uses_few geometry (row ∷ rows) g unit are =
     by (rows_uses_few geometry rows g unit (All-tail (λ (r : Row). map unit_of r.masks ≡ units_in r.keys) row rows are)) (group_of geometry row == g)
-      (own_uses_few geometry row g unit (All-head (λ (r : Row). map unit_of r.masks ≡ units_in r.keys) row rows are) (group_of geometry row == g) refl)
+    (own_uses_few geometry row g unit (All-head (λ (r : Row). map unit_of r.masks ≡ units_in r.keys) row rows are) (group_of geometry row == g) refl)
   where
     by : count_of (flat_map (row_uses geometry) rows) g unit ≤ 2 * count (in_group geometry g) (map live_holding rows) → (b : Bool)
         → count_of (row_uses geometry row) g unit ≤ 2 * cond b 1 0
@@ -204,16 +204,16 @@ group_range (g ∷ gs) array lt =
     by (λ large. group_range gs (array - g.cmus) (omega (arith, lt, sum_by-cons cmus g gs, large))) (nat_lt array g.cmus) refl
   where
     by : (g.cmus ≤ array → (sum_by cmus (take (groups_ended gs (array - g.cmus)) gs) ≤ array - g.cmus)
-          × (array - g.cmus < sum_by cmus (take (groups_ended gs (array - g.cmus)) gs) + (get_or gs (groups_ended gs (array - g.cmus)) no_group).cmus))
+        × (array - g.cmus < sum_by cmus (take (groups_ended gs (array - g.cmus)) gs) + (get_or gs (groups_ended gs (array - g.cmus)) no_group).cmus))
         → (b : Bool) → nat_lt array g.cmus ≡ b
         → (sum_by cmus (take (cond b 0 (suc (groups_ended gs (array - g.cmus)))) (g ∷ gs)) ≤ array)
-          × (array < sum_by cmus (take (cond b 0 (suc (groups_ended gs (array - g.cmus)))) (g ∷ gs)) + (get_or (g ∷ gs) (cond b 0 (suc (groups_ended gs (array - g.cmus)))) no_group).cmus)
+        × (array < sum_by cmus (take (cond b 0 (suc (groups_ended gs (array - g.cmus)))) (g ∷ gs)) + (get_or (g ∷ gs) (cond b 0 (suc (groups_ended gs (array - g.cmus)))) no_group).cmus)
     by rest true e = (omega arith, omega (arith, ltb-true array g.cmus e))
     by rest false e =
-      let large = ltb-false array g.cmus e in
-      let more = rest large in
-      let m = groups_ended gs (array - g.cmus) in
-      (omega (arith, more.0, sum_by-cons cmus g (take m gs), large), omega (arith, more.1, sum_by-cons cmus g (take m gs), large))
+        let large = ltb-false array g.cmus e in
+        let more = rest large in
+        let m = groups_ended gs (array - g.cmus) in
+        (omega (arith, more.0, sum_by-cons cmus g (take m gs), large), omega (arith, more.1, sum_by-cons cmus g (take m gs), large))
 
 group_places : (geometry : Geometry) (g : ℕ) (h : Holding) → h.array < array_count geometry → in_group geometry g h ≡ true
     → in_range (λ (x : Holding). x.array) (arrays_before geometry g) (group_in geometry g).cmus h ≡ true
@@ -231,6 +231,7 @@ few_cmus_of geometry g good = by (nat_lt g (length geometry.groups)) refl
     out [] k le = refl
     out (x ∷ gs) zero le = absurd (omega (arith, le))
     out (x ∷ gs) (suc k) le = out gs k (omega (arith, le))
+
     by : (b : Bool) → nat_lt g (length geometry.groups) ≡ b → (group_in geometry g).cmus ≤ 4
     by true e = let is : IsGroup (group_in geometry g) = good.each g no_group (ltb-true g (length geometry.groups) e) in is.few_cmus
     by false e = let none = out geometry.groups g (ltb-false g (length geometry.groups) e) in omega (arith, none)
@@ -242,7 +243,7 @@ have_room geometry os good sound g unit =
     let uses = uses_within geometry os g unit sound.tasks in
     let n = (group_in geometry g).cmus in
     let inside = count_all (in_group geometry g) (in_range (λ (x : Holding). x.array) (arrays_before geometry g) n) held
-      (All-weaker (IsHeld geometry) (λ h. in_group geometry g h ≡ true → in_range (λ (x : Holding). x.array) (arrays_before geometry g) n h ≡ true) (λ h is. group_places geometry g h is.array) held (all_are_held geometry os sound)) in
+    (All-weaker (IsHeld geometry) (λ h. in_group geometry g h ≡ true → in_range (λ (x : Holding). x.array) (arrays_before geometry g) n h ≡ true) (λ h is. group_places geometry g h is.array) held (all_are_held geometry os sound)) in
     let most = in_places (λ (x : Holding). x.array) (arrays_before geometry g) n (2 ^ geometry.split) held (few_held geometry os sound) in
     let four = few_cmus_of geometry g good in
     let split : 2 ^ geometry.split ≤ 2 ^ 10 = pow_mono {i = geometry.split} {j = 10} good.most_split in

@@ -46,10 +46,10 @@ all_there {Y = Y} P f (x ∷ xs) each = by (f x) (All-head (λ x. IfSome (f x) P
 rows_held : (geometry : Geometry) (o : Outline) → All (IsRow geometry o) o.rows → All (IsHeld geometry) (held_by o)
 rows_held geometry o each =
     All-append (IsHeld geometry) (map live_holding o.rows) (filter_map frozen_holding o.rows)
-      (All-map (IsHeld geometry) live_holding o.rows
-        (All-weaker (IsRow geometry o) (λ (row : Row). IsHeld geometry (live_holding row)) (λ row is. record { array = is.array; part = is.live }) o.rows each))
-      (all_there (IsHeld geometry) frozen_holding o.rows
-        (All-weaker (IsRow geometry o) (λ (row : Row). IfSome (frozen_holding row) (IsHeld geometry)) (λ row is. frozen_held geometry row.array row.frozen is.array is.frozen) o.rows each))
+    (All-map (IsHeld geometry) live_holding o.rows
+    (All-weaker (IsRow geometry o) (λ (row : Row). IsHeld geometry (live_holding row)) (λ row is. record { array = is.array; part = is.live }) o.rows each))
+    (all_there (IsHeld geometry) frozen_holding o.rows
+    (All-weaker (IsRow geometry o) (λ (row : Row). IfSome (frozen_holding row) (IsHeld geometry)) (λ row is. frozen_held geometry row.array row.frozen is.array is.frozen) o.rows each))
 
 pub all_are_held : (geometry : Geometry) (os : List Outline) → Sound geometry os → All (IsHeld geometry) (all_held os)
 unfolding all_held
@@ -64,8 +64,8 @@ kept_free geometry a h (x ∷ hs) same apart = by (kept_free geometry a h hs sam
     by : list_all (are_apart h.region) (map (λ (x : Holding). x.region) (filter (λ (x : Holding). x.array == a) hs)) ≡ true → (b : Bool) → (x.array == a) ≡ b
         → list_all (are_apart h.region) (map (λ (x : Holding). x.region) (cond b (x ∷ filter (λ (x : Holding). x.array == a) hs) (filter (λ (x : Holding). x.array == a) hs))) ≡ true
     by rest true e =
-      let on_a : x.array ≡ a = grind (arith, nat_tests) in
-      ap (λ b. b && list_all (are_apart h.region) (map (λ (x : Holding). x.region) (filter (λ (x : Holding). x.array == a) hs))) (All-head (ShareNone h) x hs apart (same ∙ sym on_a)) ∙ rest
+        let on_a : x.array ≡ a = grind (arith, nat_tests) in
+        ap (λ b. b && list_all (are_apart h.region) (map (λ (x : Holding). x.region) (filter (λ (x : Holding). x.array == a) hs))) (All-head (ShareNone h) x hs apart (same ∙ sym on_a)) ∙ rest
     by rest false e = rest
 
 in_order : (geometry : Geometry) (a : ℕ) (hs : List Holding) → All (IsHeld geometry) hs → AllPairs ShareNone hs
@@ -77,10 +77,10 @@ in_order geometry a (h ∷ hs) are pairs =
     by : InOrder (least_bits_of geometry a) 0 (2 ^ bits_of geometry a) (taken_on hs a) → (b : Bool) → (h.array == a) ≡ b → IsHeld geometry h
         → InOrder (least_bits_of geometry a) 0 (2 ^ bits_of geometry a) (by_base (map (λ (x : Holding). x.region) (cond b (h ∷ filter (λ (x : Holding). x.array == a) hs) (filter (λ (x : Holding). x.array == a) hs))))
     by rest true e is =
-      let same : h.array ≡ a = grind (arith, nat_tests) in
-      let part : IsPartOf geometry a h.region = subst (λ n. IsPartOf geometry n h.region) same is.part in
-      let regions = map (λ (x : Holding). x.region) (filter (λ (x : Holding). x.array == a) hs) in
-      put_in_order (least_bits_of geometry a) 0 (2 ^ bits_of geometry a) h.region (taken_on hs a) rest
+        let same : h.array ≡ a = grind (arith, nat_tests) in
+        let part : IsPartOf geometry a h.region = subst (λ n. IsPartOf geometry n h.region) same is.part in
+        let regions = map (λ (x : Holding). x.region) (filter (λ (x : Holding). x.array == a) hs) in
+        put_in_order (least_bits_of geometry a) 0 (2 ^ bits_of geometry a) h.region (taken_on hs a) rest
         (all_sorted (are_apart h.region) begins_before regions ∙ kept_free geometry a h hs same (pairs_head ShareNone h hs pairs))
         part.large (omega arith) part.inside
     by rest false e is = rest
@@ -98,7 +98,7 @@ few_held geometry os sound a =
     let regions = map (λ (x : Holding). x.region) (filter (λ (x : Holding). x.array == a) (all_held os)) in
     let few = few_in_order (least_bits_of geometry a) 0 (2 ^ bits_of geometry a) (taken_on (all_held os) a) order in
     let long : length (taken_on (all_held os) a) ≡ on (all_held os) a =
-      length_sorted begins_before regions ∙ length_map (λ (x : Holding). x.region) (filter (λ (x : Holding). x.array == a) (all_held os)) in
+    length_sorted begins_before regions ∙ length_map (λ (x : Holding). x.region) (filter (λ (x : Holding). x.array == a) (all_held os)) in
     let most = most_parts (bits_of geometry a) geometry.split (length (taken_on (all_held os) a)) few in
     omega (arith, most, long)
 

@@ -43,8 +43,8 @@ unfolding all_lives
 live_all P [] each = each
 live_all P (o ∷ os) each =
     All-append P (map live_holding o.rows) (all_lives os)
-      (all_front P (map live_holding o.rows) (filter_map frozen_holding o.rows) (all_front P (held_by o) (flat_map held_by os) each))
-      (live_all P os (all_back P (held_by o) (flat_map held_by os) each))
+    (all_front P (map live_holding o.rows) (filter_map frozen_holding o.rows) (all_front P (held_by o) (flat_map held_by os) each))
+    (live_all P os (all_back P (held_by o) (flat_map held_by os) each))
 
 live_pairs : (os : List Outline) → AllPairs ShareNone (flat_map held_by os) → AllPairs ShareNone (all_lives os)
 unfolding all_lives
@@ -53,8 +53,8 @@ live_pairs (o ∷ os) pairs =
     let outer : Parts ShareNone (held_by o) (flat_map held_by os) = pairs_parts ShareNone (held_by o) (flat_map held_by os) pairs in
     let inner : Parts ShareNone (map live_holding o.rows) (filter_map frozen_holding o.rows) = pairs_parts ShareNone (map live_holding o.rows) (filter_map frozen_holding o.rows) outer.front in
     pairs_append ShareNone (map live_holding o.rows) (all_lives os) inner.front (live_pairs os outer.back)
-      (All-weaker (λ x. All (ShareNone x) (flat_map held_by os)) (λ x. All (ShareNone x) (all_lives os)) (λ x each. live_all (ShareNone x) os each) (map live_holding o.rows)
-        (all_front (λ x. All (ShareNone x) (flat_map held_by os)) (map live_holding o.rows) (filter_map frozen_holding o.rows) outer.across))
+    (All-weaker (λ x. All (ShareNone x) (flat_map held_by os)) (λ x. All (ShareNone x) (all_lives os)) (λ x each. live_all (ShareNone x) os each) (map live_holding o.rows)
+    (all_front (λ x. All (ShareNone x) (flat_map held_by os)) (map live_holding o.rows) (filter_map frozen_holding o.rows) outer.across))
 
 spots_are_live : (os : List Outline) → map spot_holding (flat_map spots_by os) ≡ all_lives os
 unfolding all_lives
@@ -66,7 +66,7 @@ pub spots_differ : (geometry : Geometry) (os : List Outline) → Sound geometry 
 unfolding all_spots all_held
 spots_differ geometry os sound =
     pairs_mapped Differ spot_holding (all_spots os)
-      (subst (AllPairs Differ) (sym (spots_are_live os)) (pairs_weaker ShareNone Differ (λ x y s. share_differ x y s) (all_lives os) (live_pairs os sound.regions)))
+    (subst (AllPairs Differ) (sym (spots_are_live os)) (pairs_weaker ShareNone Differ (λ x y s. share_differ x y s) (all_lives os) (live_pairs os sound.regions)))
 
 -- ---- an entry may stand on its row's array
 
@@ -111,17 +111,19 @@ unit_exists : (geometry : Geometry) (o : Outline) (row : Row) → IsRow geometry
     → All (λ unit. unit < (group_in geometry (group_number geometry row.array)).units) (units_in row.keys)
 unit_exists geometry o row is =
     subst (All (λ unit. unit < (group_in geometry (group_number geometry row.array)).units)) is.units
-      (All-map (λ unit. unit < (group_in geometry (group_number geometry row.array)).units) unit_of row.masks is.exist)
+    (All-map (λ unit. unit < (group_in geometry (group_number geometry row.array)).units) unit_of row.masks is.exist)
 
 may_stand : (geometry : Geometry) (o : Outline) (i : ℕ) (before : Option ℕ) (row : Row) → i < 4 → IsRow geometry o row → Follows geometry o.task.kind before row
     → MayStand geometry (spot_of o.task i before row)
 may_stand geometry o i before row few is follows = record {
-    array = is.array;
-    fits = record {
-      row = few;
-      inside = (let part = is.live in part.inside);
-      exist = unit_exists geometry o row is;
-      carry = from_before geometry o.task.kind o.task.attr before row follows } }
+  array = is.array;
+  fits = record {
+    row = few;
+    inside = (let part = is.live in part.inside);
+    exist = unit_exists geometry o row is;
+    carry = from_before geometry o.task.kind o.task.attr before row follows;
+  };
+}
 
 stand_from : (geometry : Geometry) (o : Outline) (i : ℕ) (before : Option ℕ) (rows : List Row) → i + length rows ≤ 4 → All (IsRow geometry o) rows
     → AllPairs (RisesIn geometry o.task.kind) rows → All (Follows geometry o.task.kind before) rows → All (MayStand geometry) (spots_from o.task i before rows)
@@ -129,16 +131,16 @@ stand_from geometry o i before [] few are rise follow = All-nil (MayStand geomet
 stand_from geometry o i before (row ∷ rows) few are rise follow =
     let is = All-head (IsRow geometry o) row rows are in
     All-cons (MayStand geometry) (spot_of o.task i before row) (spots_from o.task (i + 1) (Some row.array) rows)
-      (may_stand geometry o i before row (omega (arith, few)) is (All-head (Follows geometry o.task.kind before) row rows follow))
-      (stand_from geometry o (i + 1) (Some row.array) rows (omega (arith, few)) (All-tail (IsRow geometry o) row rows are)
-        (pairs_tail (RisesIn geometry o.task.kind) row rows rise)
-        (All-weaker (RisesIn geometry o.task.kind row) (Follows geometry o.task.kind (Some row.array)) (λ r rises. (is.array, rises_groups geometry o.task.kind row r rises)) rows
-          (pairs_head (RisesIn geometry o.task.kind) row rows rise)))
+    (may_stand geometry o i before row (omega (arith, few)) is (All-head (Follows geometry o.task.kind before) row rows follow))
+    (stand_from geometry o (i + 1) (Some row.array) rows (omega (arith, few)) (All-tail (IsRow geometry o) row rows are)
+    (pairs_tail (RisesIn geometry o.task.kind) row rows rise)
+    (All-weaker (RisesIn geometry o.task.kind row) (Follows geometry o.task.kind (Some row.array)) (λ r rises. (is.array, rises_groups geometry o.task.kind row r rises)) rows
+    (pairs_head (RisesIn geometry o.task.kind) row rows rise)))
 
 pub task_stands : (geometry : Geometry) (o : Outline) → IsTask geometry o → All (MayStand geometry) (spots_by o)
 task_stands geometry o is =
     stand_from geometry o 0 None o.rows (let few = few_rows o.task is.allowed in let long = is.rows in omega (arith, few, long)) is.each is.rising
-      (All-weaker (IsRow geometry o) (Follows geometry o.task.kind None) (λ row h. tt) o.rows is.each)
+    (All-weaker (IsRow geometry o) (Follows geometry o.task.kind None) (λ row h. tt) o.rows is.each)
 
 -- ---- entries
 
@@ -152,11 +154,12 @@ enters geometry front back o slots tables sound rows e =
       stand = task_stands geometry o is;
       differ = subst (AllPairs SpotsDiffer) between (spots_differ geometry (front ++ o ∷ back) sound);
       apart = subst (AllPairs MatchNone) between sound.filters;
-      few = λ a lt. subst (λ spots. length (rules_on spots a) ≤ 2 ^ geometry.split) between (few_entries geometry (front ++ o ∷ back) sound a) } in
+      few = λ a lt. subst (λ spots. length (rules_on spots a) ≤ 2 ^ geometry.split) between (few_entries geometry (front ++ o ∷ back) sound a);
+    } in
     let there_ : spots_from o.task 0 None o.rows ≡ spots_from o.task 0 None (there slots) = ap (spots_from o.task 0 None) (sym rows) in
     let long : length (there slots) ≡ o.task.rows = ap length rows ∙ is.rows in
     let all_ = settles geometry o.task first_turn (all_spots front) (all_spots back) slots tables e (omega (arith, long)) ((λ _. refl), (λ _. refl))
-      (subst (λ ss. MaySettle geometry (all_spots front) ss (all_spots back)) there_ may) in
+    (subst (λ ss. MaySettle geometry (all_spots front) ss (all_spots back)) there_ may) in
     (all_.0, all_.1 ∙ ap (λ ss. tables_for geometry (all_spots front ++ (ss ++ all_spots back))) (sym there_) ∙ ap (tables_for geometry) (sym between))
 
 pub exits : (geometry : Geometry) (front back : List Outline) (o : Outline) (slots : List (Option Row)) (tables : List EntryTable)
@@ -167,10 +170,10 @@ exits geometry front back o slots tables sound rows e =
     let between = spots_between front back o in
     let there_ : spots_from o.task 0 None o.rows ≡ spots_from o.task 0 None (there slots) = ap (spots_from o.task 0 None) (sym rows) in
     leaves geometry o.task 0 None (all_spots front) (all_spots back) slots tables
-      (e ∙ ap (tables_for geometry) between ∙ ap (λ ss. tables_for geometry (all_spots front ++ (ss ++ all_spots back))) there_)
-      (subst (All (λ (s : Spot). s.array < array_count geometry)) there_
-        (All-weaker (MayStand geometry) (λ (s : Spot). s.array < array_count geometry) (λ s m. m.array) (spots_by o) (task_stands geometry o is)))
-      (subst (λ ss. AllPairs SpotsDiffer (all_spots front ++ (ss ++ all_spots back))) there_ (subst (AllPairs SpotsDiffer) between (spots_differ geometry (front ++ o ∷ back) sound)))
+    (e ∙ ap (tables_for geometry) between ∙ ap (λ ss. tables_for geometry (all_spots front ++ (ss ++ all_spots back))) there_)
+    (subst (All (λ (s : Spot). s.array < array_count geometry)) there_
+    (All-weaker (MayStand geometry) (λ (s : Spot). s.array < array_count geometry) (λ s m. m.array) (spots_by o) (task_stands geometry o is)))
+    (subst (λ ss. AllPairs SpotsDiffer (all_spots front ++ (ss ++ all_spots back))) there_ (subst (AllPairs SpotsDiffer) between (spots_differ geometry (front ++ o ∷ back) sound)))
 
 -- ---- uses
 
@@ -189,10 +192,10 @@ uses_enter geometry front back o slots groups good sound rows e new found =
     let there_ : o.rows ≡ there slots = sym rows in
     let L : List Row → List GroupUse = λ rs. all_uses geometry front ++ (uses_of_rows geometry rs ++ all_uses geometry back) in
     let all_ = serves geometry o.task.key (all_uses geometry front) (all_uses geometry back) slots groups e
-      (subst (All (IsNew geometry o.task.key (all_uses geometry front))) there_ new)
-      (subst (All (Finds geometry o.task.key groups)) there_ found)
-      (subst (λ rs. AllPairs AgreeOnUnits (L rs)) there_ (subst (AllPairs AgreeOnUnits) between sound.units))
-      (subst (λ rs. HaveRoom (L rs)) there_ (subst HaveRoom between (have_room geometry (front ++ o ∷ back) good sound))) in
+    (subst (All (IsNew geometry o.task.key (all_uses geometry front))) there_ new)
+    (subst (All (Finds geometry o.task.key groups)) there_ found)
+    (subst (λ rs. AllPairs AgreeOnUnits (L rs)) there_ (subst (AllPairs AgreeOnUnits) between sound.units))
+    (subst (λ rs. HaveRoom (L rs)) there_ (subst HaveRoom between (have_room geometry (front ++ o ∷ back) good sound))) in
     (all_.0, all_.1 ∙ ap (λ rs. groups_for geometry (L rs)) (sym there_) ∙ ap (groups_for geometry) (sym between))
 
 pub uses_exit : (geometry : Geometry) (front back : List Outline) (o : Outline) (slots : List (Option Row)) (groups : Groups)
@@ -204,6 +207,6 @@ uses_exit geometry front back o slots groups sound rows e =
     let there_ : o.rows ≡ there slots = sym rows in
     let L : List Row → List GroupUse = λ rs. all_uses geometry front ++ (uses_of_rows geometry rs ++ all_uses geometry back) in
     frees geometry (all_uses geometry front) (all_uses geometry back) slots groups
-      (e ∙ ap (groups_for geometry) between ∙ ap (λ rs. groups_for geometry (L rs)) there_)
-      (subst (All (HasUnits geometry)) there_ (task_units geometry o is))
-      (subst (λ rs. AllPairs AgreeOnUnits (L rs)) there_ (subst (AllPairs AgreeOnUnits) between sound.units))
+    (e ∙ ap (groups_for geometry) between ∙ ap (λ rs. groups_for geometry (L rs)) there_)
+    (subst (All (HasUnits geometry)) there_ (task_units geometry o is))
+    (subst (λ rs. AllPairs AgreeOnUnits (L rs)) there_ (subst (AllPairs AgreeOnUnits) between sound.units))

@@ -53,26 +53,29 @@ gives_region geometry os pools bits a region e lt found =
     let was : pool_at pools a ≡ pool_for geometry (all_held os) a = pools_at geometry (all_held os) pools a e lt in
     let seen = taken_seen geometry os a lt in
     let parts = region_parts (bits_of geometry a) (least_bits_of geometry a) (taken_on (all_held os) a) bits region
-      (ap (λ taken. region_in (bits_of geometry a) (least_bits_of geometry a) taken bits) (sym seen) ∙ found) in
+    (ap (λ taken. region_in (bits_of geometry a) (least_bits_of geometry a) taken bits) (sym seen) ∙ found) in
     let free : free_in (pool_at pools a) bits ≡ Some region = ap (λ (p : PoolState). free_in p bits) was ∙ parts.2 in
-    let long = length-pools geometry (all_held os) pools e in
-    (record {
-      exists = omega (arith, lt, long);
-      number = ap (λ (p : PoolState). p.number) was;
-      least = subst (λ (p : PoolState). least_bits p ≤ bits) (sym was) parts.0;
-      most = subst (λ (p : PoolState). bits ≤ p.bits) (sym was) parts.1;
-      free = subst (λ (o : Option Block). IsSome o) (sym free) refl },
-    ap (option_map (λ (r : Block). lent a r)) free)
+    let long = length-pools geometry (all_held os) pools e in (
+      record {
+        exists = omega (arith, lt, long);
+        number = ap (λ (p : PoolState). p.number) was;
+        least = subst (λ (p : PoolState). least_bits p ≤ bits) (sym was) parts.0;
+        most = subst (λ (p : PoolState). bits ≤ p.bits) (sym was) parts.1;
+        free = subst (λ (o : Option Block). IsSome o) (sym free) refl;
+      },
+      ap (option_map (λ (r : Block). lent a r)) free,
+    )
 
 -- ---- what a stage is asked before a plan
 
 pub are_pools : (geometry : Geometry) (held : List Holding) (pools : List PoolState) → pools ≡ pools_for geometry held → ArePools geometry pools
 unfolding pools_for
 are_pools geometry held pools e = record {
-    count = length-pools geometry held pools e;
-    bits = λ a lt. ap (λ (p : PoolState). p.bits) (pools_at geometry held pools a e lt);
-    split = subst (All (λ (p : PoolState). p.split ≡ geometry.split)) (sym e)
-      (All-map (λ (p : PoolState). p.split ≡ geometry.split) (pool_for geometry held) (range_with_len 0 (array_count geometry)) (λ k d lt. refl)) }
+  count = length-pools geometry held pools e;
+  bits = λ a lt. ap (λ (p : PoolState). p.bits) (pools_at geometry held pools a e lt);
+  split = subst (All (λ (p : PoolState). p.split ≡ geometry.split)) (sym e)
+      (All-map (λ (p : PoolState). p.split ≡ geometry.split) (pool_for geometry held) (range_with_len 0 (array_count geometry)) (λ k d lt. refl));
+}
 
 -- a stage sees what the tasks show, but for the order of entries
 taken_same : (geometry : Geometry) (held : List Holding) (xs : List ℕ) → map (λ (p : PoolState). p.taken) (map (pool_for geometry held) xs) ≡ map (taken_on held) xs
@@ -85,12 +88,12 @@ unfolding sight_of pools_for groups_for
 plan_same os state task bits stands =
     let geometry = state.geometry in
     placed_same geometry task bits (sight_in state.tables state.groups state.pools) (sight_of geometry os) starts_before
-      (λ array within.
-        ap by_place (get_or-map (λ (t : EntryTable). t.entries) state.tables array no_table)
-        ∙ ap (λ (t : EntryTable). t.entries) (table_is geometry (all_spots os) state.tables array stands.tables within)
-        ∙ ap by_place (sym (rules_seen geometry os array within)))
-      stands.groups
-      (ap (map (λ (p : PoolState). p.taken)) stands.pools ∙ taken_same geometry (all_held os) (range_with_len 0 (array_count geometry)))
+    (λ array within.
+    ap by_place (get_or-map (λ (t : EntryTable). t.entries) state.tables array no_table)
+    ∙ ap (λ (t : EntryTable). t.entries) (table_is geometry (all_spots os) state.tables array stands.tables within)
+    ∙ ap by_place (sym (rules_seen geometry os array within)))
+    stands.groups
+    (ap (map (λ (p : PoolState). p.taken)) stands.pools ∙ taken_same geometry (all_held os) (range_with_len 0 (array_count geometry)))
 
 -- ---- regions lie in the file
 
@@ -101,16 +104,18 @@ in_file geometry dims h shaped is =
     let more : 2 ^ bits_of geometry h.array ≤ 2 ^ greatest_bits geometry = pow_mono {i = bits_of geometry h.array} {j = greatest_bits geometry} (bits_within geometry h.array) in
     record {
       in_arrays = subst (λ n. h.array < n) (sym shaped.arrays) is.array;
-      in_array = subst (λ n. h.region.base + 2 ^ h.region.bits ≤ 2 ^ n) (sym shaped.bits) (omega (arith, inside, more)) }
+      in_array = subst (λ n. h.region.base + 2 ^ h.region.bits ≤ 2 ^ n) (sym shaped.bits) (omega (arith, inside, more));
+    }
 
 pub all_in_file : (geometry : Geometry) (dims : Dims) (leases : List (Option Lent)) → IsShaped geometry dims → All (IsHeld geometry) (held_of leases) → AreInFile dims leases
 all_in_file geometry dims [] shaped are = tt
 all_in_file geometry dims (None ∷ rest) shaped are = (tt, all_in_file geometry dims rest shaped are)
-all_in_file geometry dims (Some lease ∷ rest) shaped are =
-    (in_file geometry dims (holding_of lease) shaped (All-head (IsHeld geometry) (holding_of lease) (held_of rest) are),
-      all_in_file geometry dims rest shaped (All-tail (IsHeld geometry) (holding_of lease) (held_of rest) are))
+all_in_file geometry dims (Some lease ∷ rest) shaped are = (
+  in_file geometry dims (holding_of lease) shaped (All-head (IsHeld geometry) (holding_of lease) (held_of rest) are),
+  all_in_file geometry dims rest shaped (All-tail (IsHeld geometry) (holding_of lease) (held_of rest) are),
+)
 
 pub live_held : (geometry : Geometry) (o : Outline) (rows : List Row) → All (IsRow geometry o) rows → All (IsHeld geometry) (map live_holding rows)
 live_held geometry o rows are =
     All-map (IsHeld geometry) live_holding rows
-      (All-weaker (IsRow geometry o) (λ (row : Row). IsHeld geometry (live_holding row)) (λ row is. record { array = is.array; part = is.live }) rows are)
+    (All-weaker (IsRow geometry o) (λ (row : Row). IsHeld geometry (live_holding row)) (λ row is. record { array = is.array; part = is.live }) rows are)

@@ -64,13 +64,15 @@ is_removed os state capacity name at o slots going =
       back = f.back;
       list = list;
       all = removes f.front f.back o state slots (subst (Sound state.geometry) f.whole kept.sound) (subst (λ ys. Stands ys state) f.whole kept.stands) going.rows;
-      later = subst (Sound state.geometry) list sound }
+      later = subst (Sound state.geometry) list sound;
+    }
 
 abbrev pub cleared_state : State → List (Option Row) → State
 cleared_state state slots = record state {
   pools = given (lives slots) state.pools;
   tables = less_rows state.tables slots;
-  groups = less_uses state.geometry state.groups slots }
+  groups = less_uses state.geometry state.groups slots;
+}
 
 pub removed_leases : (os : List Outline) (state : State) (at : ℕ) (slots : List (Option Row)) (leases : List (Option Lent)) (mid : State) → Removed os state at slots
     → leases ≡ frozens slots → mid ≡ cleared_state state slots → CanGive mid.pools leases
@@ -84,12 +86,12 @@ removed_switch os state capacity name at o slots leases mid last items room goin
     let kept : IsSwitch os state capacity = going.kept in
     let one : Removed os state at slots = is_removed os state capacity name at o slots going in
     let now : last ≡ record (cleared_state state slots) { pools = given (frozens slots) (given (lives slots) state.pools) } =
-      la ∙ ap (λ (s : State). record s { pools = given leases s.pools }) m ∙ ap (λ xs. record (cleared_state state slots) { pools = given xs (given (lives slots) state.pools) }) l in
+    la ∙ ap (λ (s : State). record s { pools = given leases s.pools }) m ∙ ap (λ xs. record (cleared_state state slots) { pools = given xs (given (lives slots) state.pools) }) l in
     let new : IsSwitch (one.front ++ one.back) (record (cleared_state state slots) { pools = given (frozens slots) (given (lives slots) state.pools) }) capacity =
-      record { limits = kept.limits; sound = one.later; stands = one.all.stands; room = kept.room } in
+    record { limits = kept.limits; sound = one.later; stands = one.all.stands; room = kept.room } in
     subst (λ n. IsSwitch items last n) (sym ro)
-      (subst (λ (s : State). IsSwitch items s capacity) (sym now)
-        (subst (λ ys. IsSwitch ys (record (cleared_state state slots) { pools = given (frozens slots) (given (lives slots) state.pools) }) capacity) (sym (it ∙ one.list)) new))
+    (subst (λ (s : State). IsSwitch items s capacity) (sym now)
+    (subst (λ ys. IsSwitch ys (record (cleared_state state slots) { pools = given (frozens slots) (given (lives slots) state.pools) }) capacity) (sym (it ∙ one.list)) new))
 
 -- ---- a release
 
@@ -141,7 +143,8 @@ is_released os state capacity name at o slots going some =
       whole = f.whole;
       long = f.long;
       all = releases f.front f.back o state slots (subst (Sound state.geometry) f.whole kept.sound) (subst (λ ys. Stands ys state) f.whole kept.stands) going.rows;
-      later = subst (Sound state.geometry) (edited_list os f.front f.back at o thawed_outline f.whole f.long) sound }
+      later = subst (Sound state.geometry) (edited_list os f.front f.back at o thawed_outline f.whole f.long) sound;
+    }
 
 pub released_switch : (os : List Outline) (state : State) (capacity : ℕ) (name : List ℕ) (at : ℕ) (o : Outline) (slots rows : List (Option Row)) (leases : List (Option Lent)) (last : State)
     (items : List Outline) (room : ℕ) → Going os state capacity name at o slots → is_none o.frozen ≡ false → rows ≡ thawed slots → leases ≡ frozens slots
@@ -151,16 +154,17 @@ released_switch os state capacity name at o slots rows leases last items room go
     let kept : IsSwitch os state capacity = going.kept in
     let one : Released os state at o slots = is_released os state capacity name at o slots going some in
     let new_is : new_outline o.task (there rows) ≡ thawed_outline o =
-      ap (new_outline o.task) (ap there r ∙ there_map thawed_row slots ∙ ap (map thawed_row) going.rows) in
+    ap (new_outline o.task) (ap there r ∙ there_map thawed_row slots ∙ ap (map thawed_row) going.rows) in
     let list : items ≡ one.front ++ thawed_outline o ∷ one.back =
-      it ∙ ap (insert (remove os at) at) new_is ∙ put_back os one.front one.back at o (thawed_outline o) one.whole one.long in
+    it ∙ ap (insert (remove os at) at) new_is ∙ put_back os one.front one.back at o (thawed_outline o) one.whole one.long in
     let now : last ≡ record state { pools = given (frozens slots) state.pools } = la ∙ ap (λ xs. record state { pools = given xs state.pools }) l in
     let new : IsSwitch (one.front ++ thawed_outline o ∷ one.back) (record state { pools = given (frozens slots) state.pools }) capacity =
-      record { limits = kept.limits; sound = one.later; stands = one.all.stands; room = kept.room } in
-    (subst (λ n. IsSwitch items last n) (sym ro)
-      (subst (λ (s : State). IsSwitch items s capacity) (sym now)
-        (subst (λ ys. IsSwitch ys (record state { pools = given (frozens slots) state.pools }) capacity) (sym list) new)),
-    list ∙ sym (edited_list os one.front one.back at o thawed_outline one.whole one.long))
+    record { limits = kept.limits; sound = one.later; stands = one.all.stands; room = kept.room } in (
+      subst (λ n. IsSwitch items last n) (sym ro)
+          (subst (λ (s : State). IsSwitch items s capacity) (sym now)
+          (subst (λ ys. IsSwitch ys (record state { pools = given (frozens slots) state.pools }) capacity) (sym list) new)),
+      list ∙ sym (edited_list os one.front one.back at o thawed_outline one.whole one.long),
+    )
 
 -- ---- a resize
 
@@ -184,14 +188,15 @@ pub moving : (os : List Outline) (state : State) (name : List ℕ) (size at : �
 moving os state name size at o bits slots stage task arrays leases one t a l st =
     let is = l ∙ ap (fresh_leases bits state.pools) a in
     subst (λ (x : State). Moving x task slots leases) (sym st)
-      (subst (λ x. Moving (record state { pools = taken leases state.pools }) x slots leases) (sym t)
-        (subst (λ xs. Moving (record state { pools = taken xs state.pools }) (sized o.task size) slots xs) (sym is)
-          (record { moves = one.all.moves; leave = one.all.leave; entries = one.all.settle })))
+    (subst (λ x. Moving (record state { pools = taken leases state.pools }) x slots leases) (sym t)
+    (subst (λ xs. Moving (record state { pools = taken xs state.pools }) (sized o.task size) slots xs) (sym is)
+    (record { moves = one.all.moves; leave = one.all.leave; entries = one.all.settle })))
 
 abbrev pub moved_state : State → Sketch → List (Option Row) → List (Option Lent) → List (Option Row) → State
 moved_state state task slots leases rows = record state {
   pools = taken leases state.pools;
-  tables = with_rows task first_turn (less_rows state.tables slots) rows }
+  tables = with_rows task first_turn (less_rows state.tables slots) rows;
+}
 
 abbrev pub moved_on : Sketch → List (Option Row) → List (Option Row) → State → State
 moved_on task slots rows stage = record stage { tables = with_rows task first_turn (less_rows stage.tables slots) rows }
@@ -211,14 +216,15 @@ resized_switch os state capacity name size at o bits slots rows task arrays leas
     let leases_are : leases ≡ xs = l ∙ ap (fresh_leases bits state.pools) a in
     let rows_are : rows ≡ moved_all slots xs = r ∙ ap (moved_all slots) leases_are in
     let now : last ≡ moved_state state new_task slots xs (moved_all slots xs) =
-      la ∙ ap (moved_on task slots rows) st ∙ ap (λ y. moved_state state y slots leases rows) t ∙ ap₂ (moved_state state new_task slots) leases_are rows_are in
+    la ∙ ap (moved_on task slots rows) st ∙ ap (λ y. moved_state state y slots leases rows) t ∙ ap₂ (moved_state state new_task slots) leases_are rows_are in
     let new_is : kept_as task o.task.size (there rows) ≡ moved_outline new_task one.news o =
-      ap₂ (λ y rs. kept_as y o.task.size rs) t (ap there rows_are ∙ one.all.moved) in
+    ap₂ (λ y rs. kept_as y o.task.size rs) t (ap there rows_are ∙ one.all.moved) in
     let list : items ≡ one.front ++ moved_outline new_task one.news o ∷ one.back =
-      it ∙ ap (insert (remove os at) at) new_is ∙ put_back os one.front one.back at o (moved_outline new_task one.news o) one.whole one.long in
+    it ∙ ap (insert (remove os at) at) new_is ∙ put_back os one.front one.back at o (moved_outline new_task one.news o) one.whole one.long in
     let new : IsSwitch (one.front ++ moved_outline new_task one.news o ∷ one.back) (moved_state state new_task slots xs (moved_all slots xs)) capacity =
-      record { limits = kept.limits; sound = one.later; stands = one.all.stands; room = kept.room } in
-    (subst (λ n. IsSwitch items last n) (sym ro)
-      (subst (λ (s : State). IsSwitch items s capacity) (sym now)
-        (subst (λ ys. IsSwitch ys (moved_state state new_task slots xs (moved_all slots xs)) capacity) (sym list) new)),
-    list ∙ sym (edited_list os one.front one.back at o (moved_outline new_task one.news) one.whole one.long))
+    record { limits = kept.limits; sound = one.later; stands = one.all.stands; room = kept.room } in (
+      subst (λ n. IsSwitch items last n) (sym ro)
+          (subst (λ (s : State). IsSwitch items s capacity) (sym now)
+          (subst (λ ys. IsSwitch ys (moved_state state new_task slots xs (moved_all slots xs)) capacity) (sym list) new)),
+      list ∙ sym (edited_list os one.front one.back at o (moved_outline new_task one.news) one.whole one.long),
+    )

@@ -39,11 +39,11 @@ put_commutes key one two (x ∷ xs) ne = by (put_commutes key one two xs ne) (na
     by rest true true false true p q r s = ap (λ b. cond b (one ∷ two ∷ x ∷ xs) (two ∷ cond (nat_le (key one) (key x)) (one ∷ x ∷ xs) (x ∷ put_key key one xs))) r ∙ ap (λ b. two ∷ cond b (one ∷ x ∷ xs) (x ∷ put_key key one xs)) p ∙ sym (ap (λ b. cond b (two ∷ one ∷ x ∷ xs) (one ∷ cond (nat_le (key two) (key x)) (two ∷ x ∷ xs) (x ∷ put_key key two xs))) s)
     by rest true true false false p q r s = absurd (grind (arith, nat_tests))
     by rest true false c d p q r s =
-      let first : nat_le (key two) (key one) ≡ false = grind (arith, nat_tests) in
-      ap (λ b. cond b (one ∷ x ∷ put_key key two xs) (x ∷ put_key key one (put_key key two xs))) p ∙ sym (ap (λ b. cond b (two ∷ one ∷ x ∷ xs) (one ∷ cond (nat_le (key two) (key x)) (two ∷ x ∷ xs) (x ∷ put_key key two xs))) first ∙ ap (λ b. one ∷ cond b (two ∷ x ∷ xs) (x ∷ put_key key two xs)) q)
+        let first : nat_le (key two) (key one) ≡ false = grind (arith, nat_tests) in
+        ap (λ b. cond b (one ∷ x ∷ put_key key two xs) (x ∷ put_key key one (put_key key two xs))) p ∙ sym (ap (λ b. cond b (two ∷ one ∷ x ∷ xs) (one ∷ cond (nat_le (key two) (key x)) (two ∷ x ∷ xs) (x ∷ put_key key two xs))) first ∙ ap (λ b. one ∷ cond b (two ∷ x ∷ xs) (x ∷ put_key key two xs)) q)
     by rest false true c d p q r s =
-      let first : nat_le (key one) (key two) ≡ false = grind (arith, nat_tests) in
-      ap (λ b. cond b (one ∷ two ∷ x ∷ xs) (two ∷ cond (nat_le (key one) (key x)) (one ∷ x ∷ xs) (x ∷ put_key key one xs))) first ∙ ap (λ b. two ∷ cond b (one ∷ x ∷ xs) (x ∷ put_key key one xs)) p ∙ sym (ap (λ b. cond b (two ∷ x ∷ put_key key one xs) (x ∷ put_key key two (put_key key one xs))) q)
+        let first : nat_le (key one) (key two) ≡ false = grind (arith, nat_tests) in
+        ap (λ b. cond b (one ∷ two ∷ x ∷ xs) (two ∷ cond (nat_le (key one) (key x)) (one ∷ x ∷ xs) (x ∷ put_key key one xs))) first ∙ ap (λ b. two ∷ cond b (one ∷ x ∷ xs) (x ∷ put_key key one xs)) p ∙ sym (ap (λ b. cond b (two ∷ x ∷ put_key key one xs) (x ∷ put_key key two (put_key key one xs))) q)
     by rest false false c d p q r s = ap (λ b. cond b (one ∷ x ∷ put_key key two xs) (x ∷ put_key key one (put_key key two xs))) p ∙ ap (λ ys. x ∷ ys) rest ∙ sym (ap (λ b. cond b (two ∷ x ∷ put_key key one xs) (x ∷ put_key key two (put_key key one xs))) q)
 
 is_itself : (block : Block) → is_block block block ≡ true
@@ -56,8 +56,8 @@ without_put block (x ∷ xs) = by (without_put block xs) (nat_le block.base x.ba
     by : without block (put_by_base block xs) ≡ xs → (b : Bool) → nat_le block.base x.base ≡ b → without block (cond b (block ∷ x ∷ xs) (x ∷ put_by_base block xs)) ≡ x ∷ xs
     by rest true e = ap (λ b. cond b (x ∷ xs) (block ∷ without block (x ∷ xs))) (is_itself block)
     by rest false e =
-      let other : is_block x block ≡ false = grind (arith, nat_tests) in
-      ap (λ b. cond b (put_by_base block xs) (x ∷ without block (put_by_base block xs))) other ∙ ap (λ ys. x ∷ ys) rest
+        let other : is_block x block ≡ false = grind (arith, nat_tests) in
+        ap (λ b. cond b (put_by_base block xs) (x ∷ without block (put_by_base block xs))) other ∙ ap (λ ys. x ∷ ys) rest
 
 -- one put in by a key, and the first with the key cut out
 pub cut_put : {X : Type 0} (key : X → ℕ) (y : X) (xs : List X) → cut_key key (key y) (put_key key y xs) ≡ xs
@@ -67,8 +67,8 @@ cut_put key y (x ∷ xs) = by (cut_put key y xs) (nat_le (key y) (key x)) refl
     by : cut_key key (key y) (put_key key y xs) ≡ xs → (b : Bool) → nat_le (key y) (key x) ≡ b → cut_key key (key y) (cond b (y ∷ x ∷ xs) (x ∷ put_key key y xs)) ≡ x ∷ xs
     by rest true e = ap (λ b. cond b (x ∷ xs) (y ∷ cut_key key (key y) (x ∷ xs))) (eq-eqb (key y) (key y) refl)
     by rest false e =
-      let other : (key x == key y) ≡ false = grind (arith, nat_tests) in
-      ap (λ b. cond b (put_key key y xs) (x ∷ cut_key key (key y) (put_key key y xs))) other ∙ ap (λ ys. x ∷ ys) rest
+        let other : (key x == key y) ≡ false = grind (arith, nat_tests) in
+        ap (λ b. cond b (put_key key y xs) (x ∷ cut_key key (key y) (put_key key y xs))) other ∙ ap (λ ys. x ∷ ys) rest
 
 -- one more at the end
 pub sort_last : {X : Type 0} (key : X → ℕ) (xs : List X) (y : X) → All (λ x. key x ≢ key y) xs → sort_key key (xs ++ y ∷ []) ≡ put_key key y (sort_key key xs)
@@ -88,9 +88,9 @@ sort_cut {X} key k (x ∷ xs) any = by (sort_cut key k xs) (key x == k) refl any
         → (y : X) × (key y ≡ k) × (put_key key x (sort_key key xs) ≡ put_key key y (sort_key key (cond b xs (x ∷ cut_key key k xs))))
     by rest true e h = (x, (let same : key x ≡ k = grind (arith, nat_tests) in same), refl)
     by rest false e h =
-      let found = rest h in
-      let other : key x ≢ key found.0 = (let p = found.1 in λ same. (let bad : key x ≡ k = same ∙ p in absurd (grind (arith, nat_tests)))) in
-      (found.0, found.1, ap (put_key key x) found.2 ∙ put_commutes key x found.0 (sort_key key (cut_key key k xs)) other)
+        let found = rest h in
+        let other : key x ≢ key found.0 = (let p = found.1 in λ same. (let bad : key x ≡ k = same ∙ p in absurd (grind (arith, nat_tests)))) in
+        (found.0, found.1, ap (put_key key x) found.2 ∙ put_commutes key x found.0 (sort_key key (cut_key key k xs)) other)
 
 -- cut out of a list is cut out of its order
 pub sorted_cut : {X : Type 0} (key : X → ℕ) (y : X) (xs rest : List X) → list_any (λ x. key x == key y) xs ≡ true → sort_key key xs ≡ put_key key y rest → sort_key key (cut_key key (key y) xs) ≡ rest

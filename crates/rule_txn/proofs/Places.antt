@@ -32,21 +32,21 @@ on_place place it key (x ∷ front) back h differ =
     by : kept_at place it key (front ++ h ∷ back) (place h) ≡ put_key key (it h) (kept_at place it key (front ++ back) (place h)) → (b : Bool) → (place x == place h) ≡ b → (place x ≡ place h → key (it x) ≢ key (it h))
         → sort_key key (map it (cond b (x ∷ filter (λ y. place y == place h) (front ++ h ∷ back)) (filter (λ y. place y == place h) (front ++ h ∷ back)))) ≡ put_key key (it h) (sort_key key (map it (cond b (x ∷ filter (λ y. place y == place h) (front ++ back)) (filter (λ y. place y == place h) (front ++ back)))))
     by rest true e d =
-      let same : place x ≡ place h = grind (arith, nat_tests) in
-      ap (put_key key (it x)) rest ∙ put_commutes key (it x) (it h) (kept_at place it key (front ++ back) (place h)) (d same)
+        let same : place x ≡ place h = grind (arith, nat_tests) in
+        ap (put_key key (it x)) rest ∙ put_commutes key (it x) (it h) (kept_at place it key (front ++ back) (place h)) (d same)
     by rest false e d = rest
 
 pub map_set : {T : Type 0} (d : T) (f g : ℕ → T) (n k : ℕ) → k < n → ((j : ℕ) → j ≢ k → f j ≡ g j) → set (map f (range_with_len 0 n)) k (g k) ≡ map g (range_with_len 0 n)
 map_set d f g n k lt other =
     sym (ext_get_or d (map g (range_with_len 0 n)) (set (map f (range_with_len 0 n)) k (g k))
-      (omega (arith, length-map-range_with_len g 0 n, length-set (map f (range_with_len 0 n)) k (g k), length-map-range_with_len f 0 n))
-      (λ j less.
-        let small : j < n = omega (arith, length-map-range_with_len g 0 n) in
-        get_or-map-range_with_len g 0 n j j d small (omega arith)
-        ∙ ⊎_elim
-          (λ (e : j ≡ k). ap g e ∙ sym (ap (λ i. get_or (set (map f (range_with_len 0 n)) k (g k)) i d) e ∙ get_or-set_same (map f (range_with_len 0 n)) k (g k) d (omega (arith, length-map-range_with_len f 0 n))))
-          (λ (ne : j ≢ k). sym (get_or-set_other (map f (range_with_len 0 n)) k j (g k) d ne ∙ get_or-map-range_with_len f 0 n j j d small (omega arith) ∙ other j ne))
-          (cases_eq j k)))
+    (omega (arith, length-map-range_with_len g 0 n, length-set (map f (range_with_len 0 n)) k (g k), length-map-range_with_len f 0 n))
+    (λ j less.
+    let small : j < n = omega (arith, length-map-range_with_len g 0 n) in
+    get_or-map-range_with_len g 0 n j j d small (omega arith)
+    ∙ ⊎_elim
+    (λ (e : j ≡ k). ap g e ∙ sym (ap (λ i. get_or (set (map f (range_with_len 0 n)) k (g k)) i d) e ∙ get_or-set_same (map f (range_with_len 0 n)) k (g k) d (omega (arith, length-map-range_with_len f 0 n))))
+    (λ (ne : j ≢ k). sym (get_or-set_other (map f (range_with_len 0 n)) k j (g k) d ne ∙ get_or-map-range_with_len f 0 n j j d small (omega arith) ∙ other j ne))
+    (cases_eq j k)))
 
 pub at_range : {T : Type 0} (d : T) (f : ℕ → T) (n k : ℕ) → k < n → get_or (map f (range_with_len 0 n)) k d ≡ f k
 at_range d f n k lt = get_or-map-range_with_len f 0 n k k d lt (omega arith)

@@ -67,7 +67,7 @@ taken_one geometry front back h pools e lt differ =
     let new = pool_for geometry (front ++ h ∷ back) in
     let was : pool_at pools h.array ≡ old h.array = pools_at geometry (front ++ back) pools h.array e lt in
     let here : record (old h.array) { taken = put_by_base h.region (old h.array).taken } ≡ new h.array =
-      ap (with_taken geometry h.array) (sym (on_place array_of region_of base_of front back h differ)) in
+    ap (with_taken geometry h.array) (sym (on_place array_of region_of base_of front back h differ)) in
     ap (λ (p : PoolState). set pools h.array (record p { taken = put_by_base h.region p.taken })) was
     ∙ ap (set pools h.array) here
     ∙ ap (λ ps. set ps h.array (new h.array)) e
@@ -84,16 +84,18 @@ given_one geometry front back h pools e lt differ =
     let was : pool_at pools h.array ≡ old h.array = pools_at geometry (front ++ h ∷ back) pools h.array e lt in
     let more : (old h.array).taken ≡ put_by_base h.region (new h.array).taken = on_place array_of region_of base_of front back h differ in
     let here : record (old h.array) { taken = without h.region (old h.array).taken } ≡ new h.array =
-      ap (with_taken geometry h.array) (ap (without h.region) more ∙ without_put h.region (new h.array).taken) in
-    let long = length-pools geometry (front ++ h ∷ back) pools e in
-    (record {
-      exists = omega (arith, lt, long);
-      number = ap (λ (p : PoolState). p.number) was;
-      taken = subst (λ bs. Contains bs h.region) (sym (ap (λ (p : PoolState). p.taken) was ∙ more)) (contains_put h.region (new h.array).taken) },
-    ap (λ (p : PoolState). set pools h.array (record p { taken = without h.region p.taken })) was
-    ∙ ap (set pools h.array) here
-    ∙ ap (λ ps. set ps h.array (new h.array)) e
-    ∙ map_set no_pool old new (array_count geometry) h.array lt (λ j ne. ap (with_taken geometry j) (off_place array_of region_of base_of front back h j (λ same. ne (sym same)))))
+    ap (with_taken geometry h.array) (ap (without h.region) more ∙ without_put h.region (new h.array).taken) in
+    let long = length-pools geometry (front ++ h ∷ back) pools e in (
+      record {
+        exists = omega (arith, lt, long);
+        number = ap (λ (p : PoolState). p.number) was;
+        taken = subst (λ bs. Contains bs h.region) (sym (ap (λ (p : PoolState). p.taken) was ∙ more)) (contains_put h.region (new h.array).taken);
+      },
+      ap (λ (p : PoolState). set pools h.array (record p { taken = without h.region p.taken })) was
+          ∙ ap (set pools h.array) here
+          ∙ ap (λ ps. set ps h.array (new h.array)) e
+          ∙ map_set no_pool old new (array_count geometry) h.array lt (λ j ne. ap (with_taken geometry j) (off_place array_of region_of base_of front back h j (λ same. ne (sym same)))),
+    )
 
 -- ---- leases that are taken and given back, one after another
 
@@ -113,9 +115,9 @@ takes geometry front back (Some lease ∷ rest) pools e within differ =
     let near : Around Differ front (held_of rest ++ back) h = around Differ front (held_of rest ++ back) h differ in
     let now = taken_one geometry front back h pools e (All-head (Exists geometry) h (held_of rest) within) near.before in
     takes geometry (front ++ h ∷ []) back rest (with_region pools lease.pool lease.region)
-      (now ∙ ap (pools_for geometry) (sym (append_assoc front (h ∷ []) back)))
-      (All-tail (Exists geometry) h (held_of rest) within)
-      (subst (AllPairs Differ) (sym (append_assoc front (h ∷ []) (held_of rest ++ back))) differ)
+    (now ∙ ap (pools_for geometry) (sym (append_assoc front (h ∷ []) back)))
+    (All-tail (Exists geometry) h (held_of rest) within)
+    (subst (AllPairs Differ) (sym (append_assoc front (h ∷ []) (held_of rest ++ back))) differ)
     ∙ ap (pools_for geometry) (append_assoc front (h ∷ []) (held_of rest ++ back))
 
 pub gives : (geometry : Geometry) (front back : List Holding) (leases : List (Option Lent)) (pools : List PoolState)
@@ -147,7 +149,7 @@ other_pool : (pools : List PoolState) (a : ℕ) (x : Option Lent) → IsOn a x �
 other_pool pools a None on b ne = refl
 other_pool pools a (Some lease) on b ne =
     get_or-set_other pools lease.pool b (record (pool_at pools lease.pool) { taken = put_by_base lease.region (pool_at pools lease.pool).taken }) no_pool
-      (λ same. ne (sym on ∙ sym same))
+    (λ same. ne (sym on ∙ sym same))
 
 length-with : (pools : List PoolState) (x : Option Lent) → length (with_lease pools x) ≡ length pools
 length-with pools None = refl
@@ -161,7 +163,8 @@ gives_still bits pools a x on b ne g =
       number = subst (λ (p : PoolState). p.number ≡ b) (sym same) g.number;
       least = subst (λ (p : PoolState). least_bits p ≤ bits) (sym same) g.least;
       most = subst (λ (p : PoolState). bits ≤ p.bits) (sym same) g.most;
-      free = subst (λ (p : PoolState). IsSome (free_in p bits)) (sym same) g.free }
+      free = subst (λ (p : PoolState). IsSome (free_in p bits)) (sym same) g.free;
+    }
 
 next_still : (bits : ℕ) (pools : List PoolState) (a : ℕ) (x : Option Lent) → IsOn a x → (rest : List (Option ℕ)) → All (λ b. a ≢ b) (there rest)
     → map (next_lease bits (with_lease pools x)) rest ≡ map (next_lease bits pools) rest
@@ -169,8 +172,8 @@ next_still bits pools a x on [] ne = refl
 next_still bits pools a x on (None ∷ rest) ne = ap (λ xs. None ∷ xs) (next_still bits pools a x on rest ne)
 next_still bits pools a x on (Some b ∷ rest) ne =
     ap (λ y. y ∷ map (next_lease bits (with_lease pools x)) rest)
-      (ap (λ p. option_map (λ (region : Block). (let l : Lent = record { pool = b; region = region } in l)) (free_in p bits))
-        (other_pool pools a x on b (All-head (λ c. a ≢ c) b (there rest) ne)))
+    (ap (λ p. option_map (λ (region : Block). (let l : Lent = record { pool = b; region = region } in l)) (free_in p bits))
+    (other_pool pools a x on b (All-head (λ c. a ≢ c) b (there rest) ne)))
     ∙ ap (λ xs. next_lease bits pools (Some b) ∷ xs) (next_still bits pools a x on rest (All-tail (λ c. a ≢ c) b (there rest) ne))
 
 -- arrays that differ give in turn what they give at once
@@ -184,6 +187,6 @@ can_take bits pools (Some a ∷ rest) give apart =
     let heads : All (λ b. a ≢ b) (there rest) = pairs_head (λ a b. a ≢ b) a (there rest) apart in
     let later : All (Gives bits pools) (there rest) = All-tail (Gives bits pools) a (there rest) give in
     let more = can_take bits (with_lease pools x) rest
-      (λ k d lt. gives_still bits pools a x on (get_or (there rest) k d) (heads k d lt) (later k d lt))
-      (pairs_tail (λ a b. a ≢ b) a (there rest) apart) in
+    (λ k d lt. gives_still bits pools a x on (get_or (there rest) k d) (heads k d lt) (later k d lt))
+    (pairs_tail (λ a b. a ≢ b) a (there rest) apart) in
     ((All-head (Gives bits pools) a (there rest) give, more.0), ap (λ xs. x ∷ xs) (more.1 ∙ next_still bits pools a x on rest heads))

@@ -30,19 +30,20 @@ own_any : (hs : List Holding) → All (λ (h : Holding). (addr : ℕ) → is_in 
 own_any [] = All-nil (λ (h : Holding). (addr : ℕ) → is_in h.array addr h ≡ true → list_any (is_in h.array addr) [] ≡ true)
 own_any (x ∷ hs) =
     All-cons (λ (h : Holding). (addr : ℕ) → is_in h.array addr h ≡ true → list_any (is_in h.array addr) (x ∷ hs) ≡ true) x hs
-      (λ addr e. either_first (is_in x.array addr x) (list_any (is_in x.array addr) hs) e)
-      (All-weaker (λ (h : Holding). (addr : ℕ) → is_in h.array addr h ≡ true → list_any (is_in h.array addr) hs ≡ true)
-        (λ (h : Holding). (addr : ℕ) → is_in h.array addr h ≡ true → list_any (is_in h.array addr) (x ∷ hs) ≡ true)
-        (λ h own addr e. either_second (is_in h.array addr x) (list_any (is_in h.array addr) hs) (own addr e)) hs (own_any hs))
+    (λ addr e. either_first (is_in x.array addr x) (list_any (is_in x.array addr) hs) e)
+    (All-weaker (λ (h : Holding). (addr : ℕ) → is_in h.array addr h ≡ true → list_any (is_in h.array addr) hs ≡ true)
+    (λ (h : Holding). (addr : ℕ) → is_in h.array addr h ≡ true → list_any (is_in h.array addr) (x ∷ hs) ≡ true)
+    (λ h own addr e. either_second (is_in h.array addr x) (list_any (is_in h.array addr) hs) (own addr e)) hs (own_any hs))
 
 filled : {T E : Type 0} (leases : List (Option Lent)) (fresh : List Holding) (value : ℕ) (t : T) (old new : Contents) → held_of leases ≡ fresh
     → Fills {T = T} {E = E} leases value (Ok t) old new → Refilled fresh value old new
 filled leases fresh value t old new same fills =
     subst (λ hs. Refilled hs value old new) same (record {
       filled = All-weaker (λ (h : Holding). (addr : ℕ) → is_in h.array addr h ≡ true → list_any (is_in h.array addr) (held_of leases) ≡ true)
-        (λ (h : Holding). (addr : ℕ) → is_in h.array addr h ≡ true → new h.array addr ≡ value)
-        (λ h own addr e. fills.filled h.array addr (leased_any leases h.array addr ∙ own addr e)) (held_of leases) (own_any (held_of leases));
-      others = λ array addr none. fills.others array addr (leased_any leases array addr ∙ none) })
+          (λ (h : Holding). (addr : ℕ) → is_in h.array addr h ≡ true → new h.array addr ≡ value)
+          (λ h own addr e. fills.filled h.array addr (leased_any leases h.array addr ∙ own addr e)) (held_of leases) (own_any (held_of leases));
+      others = λ array addr none. fills.others array addr (leased_any leases array addr ∙ none);
+    })
 
 outside : {T E : Type 0} (leases : List (Option Lent)) (fresh : List Holding) (value : ℕ) (result : Result T E) (old new : Contents) → held_of leases ≡ fresh
     → Fills leases value result old new → StayOutside fresh old new
@@ -61,9 +62,9 @@ pub told_made : {L E T : Type 0} (F : Type 0) (leases : List (Option Lent)) (edi
     → Told (Refills {T = T} {F = F} r (Ok t)) before after
 told_made {L = L} {E = E} {T = T} F leases edit r value result l t before after judged same start is told =
     subst (λ j. Told (Refills {T = T} {F = F} j (Ok t)) before after) (sym judged)
-      (told_weaker (Fills leases value result) (Refilled (fresh_of edit) (start_in edit))
-        (λ old new fills. subst (λ v. Refilled (fresh_of edit) v old new) start
-          (filled {T = L} {E = E} leases (fresh_of edit) value l old new same (subst (λ x. Fills leases value x old new) is fills))) before after told)
+    (told_weaker (Fills leases value result) (Refilled (fresh_of edit) (start_in edit))
+    (λ old new fills. subst (λ v. Refilled (fresh_of edit) v old new) start
+    (filled {T = L} {E = E} leases (fresh_of edit) value l old new same (subst (λ x. Fills leases value x old new) is fills))) before after told)
 
 -- one that the register file refused
 pub told_refused : {L E F : Type 0} (T : Type 0) (leases : List (Option Lent)) (edit : Edit) (r : Result Edit Refusal) (value : ℕ) (result : Result L E) (fault : F) (before after : Option Contents)
@@ -71,4 +72,4 @@ pub told_refused : {L E F : Type 0} (T : Type 0) (leases : List (Option Lent)) (
     → Told (Refills {T = T} {F = F} r (Err fault)) before after
 told_refused {F = F} T leases edit r value result fault before after judged same told =
     subst (λ j. Told (Refills {T = T} {F = F} j (Err fault)) before after) (sym judged)
-      (told_weaker (Fills leases value result) (StayOutside (fresh_of edit)) (λ old new fills. outside leases (fresh_of edit) value result old new same fills) before after told)
+    (told_weaker (Fills leases value result) (StayOutside (fresh_of edit)) (λ old new fills. outside leases (fresh_of edit) value result old new same fills) before after told)

@@ -51,7 +51,8 @@ pub record Removes (front back : List Outline) (state : State) (slots : List (Op
   pub stands : Stands (front ++ back) (record state {
     pools = given (frozens slots) (given (lives slots) state.pools);
     tables = less_rows state.tables slots;
-    groups = less_uses state.geometry state.groups slots })
+    groups = less_uses state.geometry state.groups slots;
+  })
 
 pub removes : (front back : List Outline) (o : Outline) (state : State) (slots : List (Option Row)) → Sound state.geometry (front ++ o ∷ back)
     → Stands (front ++ o ∷ back) state → there slots ≡ o.rows → Removes front back state slots
@@ -62,16 +63,16 @@ removes front back o state slots sound stands rows =
     let ls = held_of (lives slots) in
     let fs = held_of (frozens slots) in
     let own : held_by o ≡ ls ++ fs =
-      ap₂ (λ xs ys. xs ++ ys) (ap (map live_holding) (sym rows) ∙ sym (lives_held slots)) (ap (filter_map frozen_holding) (sym rows) ∙ sym (frozens_held slots)) in
+    ap₂ (λ xs ys. xs ++ ys) (ap (map live_holding) (sym rows) ∙ sym (lives_held slots)) (ap (filter_map frozen_holding) (sym rows) ∙ sym (frozens_held slots)) in
     let whole : all_held (front ++ o ∷ back) ≡ fh ++ (ls ++ (fs ++ bh)) =
-      held_between front back o ∙ ap (λ hs. fh ++ (hs ++ bh)) own ∙ ap (λ hs. fh ++ hs) (append_assoc ls fs bh) in
+    held_between front back o ∙ ap (λ hs. fh ++ (hs ++ bh)) own ∙ ap (λ hs. fh ++ hs) (append_assoc ls fs bh) in
     let exist = subst (All (Exists geometry)) whole (exist_all geometry (front ++ o ∷ back) sound) in
     let differ = subst (AllPairs Differ) whole (differ_all geometry (front ++ o ∷ back) sound) in
     let middle = all_back (Exists geometry) fh (ls ++ (fs ++ bh)) exist in
     let first = gives geometry fh (fs ++ bh) (lives slots) state.pools (stands.pools ∙ ap (pools_for geometry) whole)
-      (all_front (Exists geometry) ls (fs ++ bh) middle) differ in
+    (all_front (Exists geometry) ls (fs ++ bh) middle) differ in
     let second = gives geometry fh bh (frozens slots) (given (lives slots) state.pools) first.1
-      (all_front (Exists geometry) fs bh (all_back (Exists geometry) ls (fs ++ bh) middle)) (pairs_cut Differ fh ls (fs ++ bh) differ) in
+    (all_front (Exists geometry) fs bh (all_back (Exists geometry) ls (fs ++ bh) middle)) (pairs_cut Differ fh ls (fs ++ bh) differ) in
     let entries = exits geometry front back o slots state.tables sound rows stands.tables in
     let units = uses_exit geometry front back o slots state.groups sound rows stands.groups in
     record {
@@ -82,7 +83,9 @@ removes front back o state slots sound stands rows =
       stands = record {
         pools = second.1 ∙ ap (pools_for geometry) (sym (held_both front back));
         tables = entries.1 ∙ ap (tables_for geometry) (sym (spots_both front back));
-        groups = units.1 ∙ ap (groups_for geometry) (sym (uses_both geometry front back)) } }
+        groups = units.1 ∙ ap (groups_for geometry) (sym (uses_both geometry front back));
+      };
+    }
 
 -- ---- frozen rows
 
@@ -109,16 +112,18 @@ releases front back o state slots sound stands rows =
     let fs = held_of (frozens slots) in
     let own : held_by o ≡ ls ++ fs = ap (λ ys. ls ++ ys) (ap (filter_map frozen_holding) (sym rows) ∙ sym (frozens_held slots)) in
     let whole : all_held (front ++ o ∷ back) ≡ (fh ++ ls) ++ (fs ++ bh) =
-      held_between front back o ∙ ap (λ hs. fh ++ (hs ++ bh)) own ∙ ap (λ hs. fh ++ hs) (append_assoc ls fs bh) ∙ sym (append_assoc fh ls (fs ++ bh)) in
+    held_between front back o ∙ ap (λ hs. fh ++ (hs ++ bh)) own ∙ ap (λ hs. fh ++ hs) (append_assoc ls fs bh) ∙ sym (append_assoc fh ls (fs ++ bh)) in
     let exist = subst (All (Exists geometry)) whole (exist_all geometry (front ++ o ∷ back) sound) in
     let differ = subst (AllPairs Differ) whole (differ_all geometry (front ++ o ∷ back) sound) in
     let gone = gives geometry (fh ++ ls) bh (frozens slots) state.pools (stands.pools ∙ ap (pools_for geometry) whole)
-      (all_front (Exists geometry) fs bh (all_back (Exists geometry) (fh ++ ls) (fs ++ bh) exist)) differ in
+    (all_front (Exists geometry) fs bh (all_back (Exists geometry) (fh ++ ls) (fs ++ bh) exist)) differ in
     record {
       frozen = gone.0;
       stands = record {
         pools = gone.1 ∙ ap (pools_for geometry) (append_assoc fh ls bh ∙ ap (λ hs. fh ++ (hs ++ bh)) (sym (held_thawed o)) ∙ sym (held_between front back p));
         tables = stands.tables ∙ ap (tables_for geometry)
-          (spots_between front back o ∙ ap (λ ss. all_spots front ++ (ss ++ all_spots back)) (sym (thawed_spots o.task 0 None o.rows)) ∙ sym (spots_between front back p));
+            (spots_between front back o ∙ ap (λ ss. all_spots front ++ (ss ++ all_spots back)) (sym (thawed_spots o.task 0 None o.rows)) ∙ sym (spots_between front back p));
         groups = stands.groups ∙ ap (groups_for geometry)
-          (uses_between geometry front back o ∙ ap (λ us. all_uses geometry front ++ (us ++ all_uses geometry back)) (sym (thawed_uses geometry o.rows)) ∙ sym (uses_between geometry front back p)) } }
+            (uses_between geometry front back o ∙ ap (λ us. all_uses geometry front ++ (us ++ all_uses geometry back)) (sym (thawed_uses geometry o.rows)) ∙ sym (uses_between geometry front back p));
+      };
+    }

@@ -40,15 +40,16 @@ pub found_at : (name : List ℕ) (os : List Outline) (at : ℕ) (o : Outline) �
 found_at name os at o found here =
     let parts : Parted (is_called name) at os = parted (is_called name) os at found in
     let same : o ≡ parts.here =
-      here ∙ ap (λ ys. slice_index_or ys at o) parts.is ∙ ap (λ n. slice_index_or (parts.front ++ parts.here ∷ parts.back) n o) (sym parts.long)
-      ∙ here_is parts.front parts.back parts.here o in
+    here ∙ ap (λ ys. slice_index_or ys at o) parts.is ∙ ap (λ n. slice_index_or (parts.front ++ parts.here ∷ parts.back) n o) (sym parts.long)
+    ∙ here_is parts.front parts.back parts.here o in
     let whole : os ≡ parts.front ++ o ∷ parts.back = parts.is ∙ ap (λ y. parts.front ++ y ∷ parts.back) (sym same) in
     record {
       front = parts.front;
       back = parts.back;
       whole = whole;
       long = parts.long;
-      get = ap (λ ys. slice_get ys at) whole ∙ ap (slice_get (parts.front ++ o ∷ parts.back)) (sym parts.long) ∙ get_here parts.front parts.back o }
+      get = ap (λ ys. slice_get ys at) whole ∙ ap (slice_get (parts.front ++ o ∷ parts.back)) (sym parts.long) ∙ get_here parts.front parts.back o;
+    }
 
 judged_at : (name : List ℕ) (os : List Outline) (at : ℕ) (o : Outline) (change : ℕ → Outline → Result Edit Refusal) → position (is_called name) os ≡ Some at → slice_get os at ≡ Some o
     → at_name name os change ≡ change at o
@@ -119,13 +120,14 @@ pub arrays_exist : (os : List Outline) (state : State) (capacity : ℕ) (name : 
     → All (λ array. array < length state.pools) (arrays_there slots) × AllPairs (λ (one two : ℕ). one ≢ two) (arrays_there slots)
 arrays_exist os state capacity name at o slots kept place here rows =
     let is : IsTask state.geometry o = task_is os state capacity name at o kept place here in
-    let count : length state.pools ≡ array_count state.geometry = length-pools state.geometry (all_held os) state.pools kept.stands.pools in
-    (subst (λ rs. All (λ array. array < length state.pools) (map (λ (row : Row). row.array) rs)) (sym rows)
-      (All-map (λ array. array < length state.pools) (λ (row : Row). row.array) o.rows
-        (subst (λ n. All (λ (row : Row). row.array < n) o.rows) (sym count) (rows_exist state.geometry o is))),
-    subst (λ rs. AllPairs (λ (one two : ℕ). one ≢ two) (map (λ (row : Row). row.array) rs)) (sym rows)
-      (pairs_map (λ (one two : ℕ). one ≢ two) (λ (row : Row). row.array) o.rows
-        (pairs_weaker (RisesIn state.geometry o.task.kind) (λ (one two : Row). one.array ≢ two.array) (λ one two r. rises_differ state.geometry o.task.kind one two r) o.rows is.rising)))
+    let count : length state.pools ≡ array_count state.geometry = length-pools state.geometry (all_held os) state.pools kept.stands.pools in (
+      subst (λ rs. All (λ array. array < length state.pools) (map (λ (row : Row). row.array) rs)) (sym rows)
+          (All-map (λ array. array < length state.pools) (λ (row : Row). row.array) o.rows
+          (subst (λ n. All (λ (row : Row). row.array < n) o.rows) (sym count) (rows_exist state.geometry o is))),
+      subst (λ rs. AllPairs (λ (one two : ℕ). one ≢ two) (map (λ (row : Row). row.array) rs)) (sym rows)
+          (pairs_map (λ (one two : ℕ). one ≢ two) (λ (row : Row). row.array) o.rows
+          (pairs_weaker (RisesIn state.geometry o.task.kind) (λ (one two : Row). one.array ≢ two.array) (λ one two r. rises_differ state.geometry o.task.kind one two r) o.rows is.rising)),
+    )
 
 pub full_resize : (os : List Outline) (state : State) (capacity : ℕ) (name : List ℕ) (size at : ℕ) (o : Outline) (bits row : ℕ) (slots : List (Option Row)) → Looks os state capacity name size at o
     → bits_for state.geometry o.task.kind size ≡ Some bits → there slots ≡ o.rows → first_full state.pools bits (arrays_there slots) ≡ Some row
@@ -135,8 +137,8 @@ full_resize os state capacity name size at o bits row slots looks is rows full =
     let task : IsTask state.geometry o = task_is os state capacity name at o kept looks.place looks.here in
     sized_resize os state capacity name size at o (Some bits) looks is
     ∙ ap (moved at (record o.task { size = size }))
-      (room_some state.geometry os state.pools bits row o.rows kept.stands.pools (rows_exist state.geometry o task)
-        (ap (λ rs. first_full state.pools bits (map (λ (r : Row). r.array) rs)) (sym rows) ∙ full))
+    (room_some state.geometry os state.pools bits row o.rows kept.stands.pools (rows_exist state.geometry o task)
+    (ap (λ rs. first_full state.pools bits (map (λ (r : Row). r.array) rs)) (sym rows) ∙ full))
 
 -- ---- one that is made
 
@@ -168,13 +170,13 @@ is_resized os state capacity name size at o bits slots sizes =
     let f : FoundAt os at o = found_at name os at o looks.place looks.here in
     let is : IsTask geometry o = task_is os state capacity name at o kept looks.place looks.here in
     let moves = room_none geometry os state.pools bits o.rows kept.stands.pools (rows_exist geometry o is)
-      (ap (λ rs. first_full state.pools bits (map (λ (r : Row). r.array) rs)) (sym sizes.rows) ∙ sizes.room) in
+    (ap (λ rs. first_full state.pools bits (map (λ (r : Row). r.array) rs)) (sym sizes.rows) ∙ sizes.room) in
     let news : List Row = moves.0 in
     let verdict : judged geometry os (Resize name size) ≡ Ok (Move at (sized o.task size) news) =
-      sized_resize os state capacity name size at o (Some bits) looks sizes.bits_are ∙ ap (moved at (sized o.task size)) moves.1 in
+    sized_resize os state capacity name size at o (Some bits) looks sizes.bits_are ∙ ap (moved at (sized o.task size)) moves.1 in
     let sound = sound_changed geometry os (Resize name size) (Move at (sized o.task size) news) kept.limits tt kept.sound verdict in
     let list : edit_at at (moved_outline (sized o.task size) news) os ≡ f.front ++ moved_outline (sized o.task size) news o ∷ f.back =
-      ap (λ n. edit_at n (moved_outline (sized o.task size) news) os) (sym f.long) ∙ moved_list os f.front f.back o (moved_outline (sized o.task size) news) f.whole in
+    ap (λ n. edit_at n (moved_outline (sized o.task size) news) os) (sym f.long) ∙ moved_list os f.front f.back o (moved_outline (sized o.task size) news) f.whole in
     let later : Sound geometry (f.front ++ moved_outline (sized o.task size) news o ∷ f.back) = subst (Sound geometry) list sound in
     record {
       news = news;
@@ -184,5 +186,6 @@ is_resized os state capacity name size at o bits slots sizes =
       long = f.long;
       judged_is = verdict;
       all = resizes f.front f.back o state bits size slots news (subst (Sound geometry) f.whole kept.sound) (subst (λ ys. Stands ys state) f.whole kept.stands) sizes.rows looks.free
-        (ap (λ ys. moved_rows geometry (sight_of geometry ys) bits 0 o.rows) (sym f.whole) ∙ moves.1) later;
-      later = later }
+          (ap (λ ys. moved_rows geometry (sight_of geometry ys) bits 0 o.rows) (sym f.whole) ∙ moves.1) later;
+      later = later;
+    }

@@ -52,15 +52,15 @@ leases_are geometry os pools bits (None ∷ slots) e each = ap (λ xs. None ∷ 
 leases_are geometry os pools bits (Some row ∷ slots) e each =
     let is = All-head (MayMove geometry (sight_of geometry os) bits) row (there slots) each in
     ap₂ (λ x xs. x ∷ xs) (gives_region geometry os pools bits row.array (new_region geometry (sight_of geometry os) bits row) e is.array is.has).1
-      (leases_are geometry os pools bits slots e (All-tail (MayMove geometry (sight_of geometry os) bits) row (there slots) each))
+    (leases_are geometry os pools bits slots e (All-tail (MayMove geometry (sight_of geometry os) bits) row (there slots) each))
 
 give_all : (geometry : Geometry) (os : List Outline) (pools : List PoolState) (bits : ℕ) (slots : List (Option Row)) → pools ≡ pools_for geometry (all_held os)
     → All (MayMove geometry (sight_of geometry os) bits) (there slots) → All (Gives bits pools) (there (map row_array slots))
 give_all geometry os pools bits slots e each =
     subst (All (Gives bits pools)) (sym (there_map (λ (r : Row). r.array) slots))
-      (All-map (Gives bits pools) (λ (r : Row). r.array) (there slots)
-        (All-weaker (MayMove geometry (sight_of geometry os) bits) (λ (r : Row). Gives bits pools r.array)
-          (λ r is. (gives_region geometry os pools bits r.array (new_region geometry (sight_of geometry os) bits r) e is.array is.has).0) (there slots) each))
+    (All-map (Gives bits pools) (λ (r : Row). r.array) (there slots)
+    (All-weaker (MayMove geometry (sight_of geometry os) bits) (λ (r : Row). Gives bits pools r.array)
+    (λ r is. (gives_region geometry os pools bits r.array (new_region geometry (sight_of geometry os) bits r) e is.array is.has).0) (there slots) each))
 
 may_move_all : (geometry : Geometry) (sight : Sight) (bits : ℕ) (slots : List (Option Row)) → All (MayMove geometry sight bits) (there slots)
     → CanMoveAll slots (map (option_map (new_lease geometry sight bits)) slots)
@@ -105,7 +105,8 @@ pub record Resizes (front back : List Outline) (o : Outline) (state : State) (bi
   pub moved : there (moved_all slots (fresh_leases bits state.pools (map row_array slots))) ≡ news
   pub stands : Stands (front ++ moved_outline (record o.task { size = size }) news o ∷ back) (record state {
     pools = taken (fresh_leases bits state.pools (map row_array slots)) state.pools;
-    tables = with_rows (record o.task { size = size }) first_turn (less_rows state.tables slots) (moved_all slots (fresh_leases bits state.pools (map row_array slots))) })
+    tables = with_rows (record o.task { size = size }) first_turn (less_rows state.tables slots) (moved_all slots (fresh_leases bits state.pools (map row_array slots)));
+  })
 
 pub resizes : (front back : List Outline) (o : Outline) (state : State) (bits size : ℕ) (slots : List (Option Row)) (news : List Row)
     → Sound state.geometry (front ++ o ∷ back) → Stands (front ++ o ∷ back) state → there slots ≡ o.rows → is_some o.frozen ≡ false
@@ -122,34 +123,34 @@ resizes front back o state bits size slots news sound stands rows free moves lat
     let now : IsTask geometry p = all_here (IsTask geometry) front back p later.tasks in
     let are : AreMoved geometry sight bits o.rows news = are_moved geometry sight bits 0 o.rows news moves in
     let none : All (λ (row : Row). row.frozen ≡ None) o.rows =
-      All-weaker (IsRow geometry o) (λ (row : Row). row.frozen ≡ None) (λ row h. no_size row.frozen (h.frozen_size ∙ no_frozen o.frozen free)) o.rows is.each in
+    All-weaker (IsRow geometry o) (λ (row : Row). row.frozen ≡ None) (λ row h. no_size row.frozen (h.frozen_size ∙ no_frozen o.frozen free)) o.rows is.each in
     let may : All (MayMove geometry sight bits) o.rows =
-      (λ k d lt. record { array = (let h : IsRow geometry o (get_or o.rows k d) = is.each k d lt in h.array); has = are.each k d lt; thawed = none k d lt }) in
+    (λ k d lt. record { array = (let h : IsRow geometry o (get_or o.rows k d) = is.each k d lt in h.array); has = are.each k d lt; thawed = none k d lt }) in
     let each : All (MayMove geometry sight bits) (there slots) = subst (All (MayMove geometry sight bits)) (sym rows) may in
     let different : AllPairs (λ (a b : ℕ). a ≢ b) (there (map row_array slots)) =
-      subst (AllPairs (λ (a b : ℕ). a ≢ b)) (sym (there_map (λ (r : Row). r.array) slots ∙ ap (map (λ (r : Row). r.array)) rows))
-        (pairs_map (λ (a b : ℕ). a ≢ b) (λ (r : Row). r.array) o.rows
-          (pairs_weaker (RisesIn geometry o.task.kind) (λ (one two : Row). one.array ≢ two.array) (λ one two r. rises_differ geometry o.task.kind one two r) o.rows is.rising)) in
+    subst (AllPairs (λ (a b : ℕ). a ≢ b)) (sym (there_map (λ (r : Row). r.array) slots ∙ ap (map (λ (r : Row). r.array)) rows))
+    (pairs_map (λ (a b : ℕ). a ≢ b) (λ (r : Row). r.array) o.rows
+    (pairs_weaker (RisesIn geometry o.task.kind) (λ (one two : Row). one.array ≢ two.array) (λ one two r. rises_differ geometry o.task.kind one two r) o.rows is.rising)) in
     let can = can_take bits state.pools (map row_array slots) (give_all geometry os state.pools bits slots stands.pools each) different in
     let xs : List (Option Lent) = fresh_leases bits state.pools (map row_array slots) in
     let xs_are : xs ≡ map (option_map (new_lease geometry sight bits)) slots = can.1 ∙ leases_are geometry os state.pools bits slots stands.pools each in
     let news_are : map (moved_by geometry sight bits) (there slots) ≡ news = ap (map (moved_by geometry sight bits)) rows ∙ sym are.are in
     let moved_rows_are : there (moved_all slots xs) ≡ news = ap (λ ys. there (moved_all slots ys)) xs_are ∙ moved_are geometry sight bits slots ∙ news_are in
     let fresh : held_of xs ≡ map live_holding news =
-      ap held_of xs_are ∙ ap (map holding_of) (there_map (new_lease geometry sight bits) slots) ∙ new_held geometry sight bits (there slots) ∙ ap (map live_holding) news_are in
+    ap held_of xs_are ∙ ap (map holding_of) (there_map (new_lease geometry sight bits) slots) ∙ new_held geometry sight bits (there slots) ∙ ap (map live_holding) news_are in
     let fh = all_held front in
     let bh = all_held back in
     let own : held_by o ≡ map live_holding o.rows = ap (λ hs. map live_holding o.rows ++ hs) (none_frozen o.rows none) ∙ append-nil (map live_holding o.rows) in
     let before : all_held os ≡ fh ++ (map live_holding o.rows ++ bh) = held_between front back o ∙ ap (λ hs. fh ++ (hs ++ bh)) own in
     let frozen_now : filter_map frozen_holding news ≡ map live_holding o.rows = ap (filter_map frozen_holding) are.are ∙ moved_frozen geometry sight bits o.rows in
     let after : all_held (front ++ p ∷ back) ≡ fh ++ (held_of xs ++ (map live_holding o.rows ++ bh)) =
-      held_between front back p
-      ∙ ap (λ hs. fh ++ hs) (ap₂ (λ ls fs. (ls ++ fs) ++ bh) (sym fresh) frozen_now ∙ append_assoc (held_of xs) (map live_holding o.rows) bh) in
+    held_between front back p
+    ∙ ap (λ hs. fh ++ hs) (ap₂ (λ ls fs. (ls ++ fs) ++ bh) (sym fresh) frozen_now ∙ append_assoc (held_of xs) (map live_holding o.rows) bh) in
     let pools = takes geometry fh (map live_holding o.rows ++ bh) xs state.pools (stands.pools ∙ ap (pools_for geometry) before)
-      (subst (All (λ (h : Holding). h.array < array_count geometry)) (sym fresh)
-        (All-weaker (IsHeld geometry) (λ (h : Holding). h.array < array_count geometry) (λ h k. k.array) (map live_holding news) (live_held geometry p news now.each)))
-      (subst (AllPairs Differ) after (differ_all geometry (front ++ p ∷ back) later))
-      ∙ ap (pools_for geometry) (sym after) in
+    (subst (All (λ (h : Holding). h.array < array_count geometry)) (sym fresh)
+    (All-weaker (IsHeld geometry) (λ (h : Holding). h.array < array_count geometry) (λ h k. k.array) (map live_holding news) (live_held geometry p news now.each)))
+    (subst (AllPairs Differ) after (differ_all geometry (front ++ p ∷ back) later))
+    ∙ ap (pools_for geometry) (sym after) in
     let gone = exits geometry front back o slots state.tables sound rows stands.tables in
     let entries = enters geometry front back p (moved_all slots xs) (less_rows state.tables slots) later moved_rows_are gone.1 in
     let uses : uses_by geometry o ≡ uses_by geometry p = sym (moved_uses geometry sight bits o.rows) ∙ ap (flat_map (row_uses geometry)) (sym are.are) in
@@ -165,7 +166,9 @@ resizes front back o state bits size slots news sound stands rows free moves lat
         pools = pools;
         tables = entries.1;
         groups = stands.groups ∙ ap (groups_for geometry)
-          (uses_between geometry front back o ∙ ap (λ us. all_uses geometry front ++ (us ++ all_uses geometry back)) uses ∙ sym (uses_between geometry front back p)) } }
+            (uses_between geometry front back o ∙ ap (λ us. all_uses geometry front ++ (us ++ all_uses geometry back)) uses ∙ sym (uses_between geometry front back p));
+      };
+    }
 
 -- ---- whether there is room
 
@@ -190,7 +193,7 @@ pub all_move : (geometry : Geometry) (os : List Outline) (pools : List PoolState
 all_move geometry os pools bits k [] e exist free = ([], refl)
 all_move geometry os pools bits k (row ∷ rows) e exist free =
     let rest = all_move geometry os pools bits (k + 1) rows e (All-tail (λ (r : Row). r.array < array_count geometry) row rows exist)
-      (All-tail (λ (r : Row). is_full pools bits r.array ≡ false) row rows free) in
+    (All-tail (λ (r : Row). is_full pools bits r.array ≡ false) row rows free) in
     let full = full_is geometry os pools bits row.array e (All-head (λ (r : Row). r.array < array_count geometry) row rows exist) in
     let region = is_region (region_for geometry (sight_of geometry os) bits row.array) (sym full ∙ All-head (λ (r : Row). is_full pools bits r.array ≡ false) row rows free) in
     (moved_row row region.0 ∷ rest.0, ap₂ (λ o r. moved_first k row o r) region.1 rest.1)
@@ -205,20 +208,22 @@ first_stays geometry os pools bits k i (row ∷ rows) e exist at lt =
   where
     tail : All (λ (r : Row). r.array < array_count geometry) rows
     tail = All-tail (λ (r : Row). r.array < array_count geometry) row rows exist
+
     full : is_full pools bits row.array ≡ not (is_some (region_for geometry (sight_of geometry os) bits row.array))
     full = full_is geometry os pools bits row.array e (All-head (λ (r : Row). r.array < array_count geometry) row rows exist)
+
     by : ((j : ℕ) → j ≡ position_or_len (λ (r : Row). is_full pools bits r.array) rows → j < length rows → moved_rows geometry (sight_of geometry os) bits (k + 1) rows ≡ Err (k + 1 + j))
         → (b : Bool) → is_full pools bits row.array ≡ b → i ≡ cond (not b) (1 + position_or_len (λ (r : Row). is_full pools bits r.array) rows) 0
         → moved_first k row (region_for geometry (sight_of geometry os) bits row.array) (moved_rows geometry (sight_of geometry os) bits (k + 1) rows) ≡ Err (k + i)
     by rest true f g =
-      let none = no_region (region_for geometry (sight_of geometry os) bits row.array) (sym full ∙ f) in
-      let same : k ≡ k + i = omega (arith, g) in
-      ap (λ o. moved_first k row o (moved_rows geometry (sight_of geometry os) bits (k + 1) rows)) none ∙ ap Err same
+        let none = no_region (region_for geometry (sight_of geometry os) bits row.array) (sym full ∙ f) in
+        let same : k ≡ k + i = omega (arith, g) in
+        ap (λ o. moved_first k row o (moved_rows geometry (sight_of geometry os) bits (k + 1) rows)) none ∙ ap Err same
     by rest false f g =
-      let j = position_or_len (λ (r : Row). is_full pools bits r.array) rows in
-      let region = is_region (region_for geometry (sight_of geometry os) bits row.array) (sym full ∙ f) in
-      let same : k + 1 + j ≡ k + i = omega (arith, g) in
-      ap₂ (λ o r. moved_first k row o r) region.1 (rest j refl (omega (arith, g, lt))) ∙ ap Err same
+        let j = position_or_len (λ (r : Row). is_full pools bits r.array) rows in
+        let region = is_region (region_for geometry (sight_of geometry os) bits row.array) (sym full ∙ f) in
+        let same : k + 1 + j ≡ k + i = omega (arith, g) in
+        ap₂ (λ o r. moved_first k row o r) region.1 (rest j refl (omega (arith, g, lt))) ∙ ap Err same
 
 pub room_some : (geometry : Geometry) (os : List Outline) (pools : List PoolState) (bits i : ℕ) (rows : List Row) → pools ≡ pools_for geometry (all_held os)
     → All (λ (row : Row). row.array < array_count geometry) rows → first_full pools bits (map (λ (row : Row). row.array) rows) ≡ Some i
@@ -233,4 +238,4 @@ pub room_none : (geometry : Geometry) (os : List Outline) (pools : List PoolStat
     → (news : List Row) × (moved_rows geometry (sight_of geometry os) bits 0 rows ≡ Ok news)
 room_none geometry os pools bits rows e exist full =
     all_move geometry os pools bits 0 rows e exist
-      (none_passes (λ (row : Row). is_full pools bits row.array) rows (ap is_some (sym (mapped_position (is_full pools bits) (λ (row : Row). row.array) rows) ∙ full)))
+    (none_passes (λ (row : Row). is_full pools bits row.array) rows (ap is_some (sym (mapped_position (is_full pools bits) (λ (row : Row). row.array) rows) ∙ full)))

@@ -27,7 +27,7 @@ pairs_cut R front middle back pairs =
     let outer : Parts R front (middle ++ back) = pairs_parts R front (middle ++ back) pairs in
     let inner : Parts R middle back = pairs_parts R middle back outer.back in
     pairs_append R front back outer.front inner.back
-      (All-weaker (λ x. All (R x) (middle ++ back)) (λ x. All (R x) back) (λ x all. all_back (R x) middle back all) front outer.across)
+    (All-weaker (λ x. All (R x) (middle ++ back)) (λ x. All (R x) back) (λ x all. all_back (R x) middle back all) front outer.across)
 
 abbrev pub group_of : Geometry → Row → ℕ
 group_of geometry row = group_number geometry row.array
@@ -68,13 +68,13 @@ row_more geometry key front back row groups e is pairs =
     let old = units_on geometry (front ++ back) in
     let new = units_on geometry (front ++ (row_uses geometry row ++ back)) in
     let apart : AllPairs Agree (group_uses front g ++ (map (use_in g) row.masks ++ group_uses back g)) =
-      subst (AllPairs Agree) (between front back g row.masks) (agree_in (front ++ (row_uses geometry row ++ back)) g pairs) in
+    subst (AllPairs Agree) (between front back g row.masks) (agree_in (front ++ (row_uses geometry row ++ back)) g pairs) in
     ap (λ units. set groups g (served_units units row.keys key)) (group_is geometry (front ++ back) groups g e lt)
     ∙ ap (set groups g)
-      (ap (λ ns. fold (served_at key) (old g) ns) (sym is.has.units)
-      ∙ ap (λ us. fold (served_at key) (units_from c us) (map unit_of row.masks)) (uses_append front back g)
-      ∙ masks_more c g key (group_uses front g) (group_uses back g) row.masks is.has.exist apart is.new
-      ∙ ap (units_from c) (sym (between front back g row.masks)))
+    (ap (λ ns. fold (served_at key) (old g) ns) (sym is.has.units)
+    ∙ ap (λ us. fold (served_at key) (units_from c us) (map unit_of row.masks)) (uses_append front back g)
+    ∙ masks_more c g key (group_uses front g) (group_uses back g) row.masks is.has.exist apart is.new
+    ∙ ap (units_from c) (sym (between front back g row.masks)))
     ∙ ap (λ gs. set gs g (new g)) e
     ∙ map_set [] old new (length geometry.groups) g lt (λ j ne. ap (units_from (units_count geometry j)) (sym (beside front back g j (λ same. ne (sym same)) row.masks)))
 
@@ -89,13 +89,13 @@ row_less geometry front back row groups e has pairs =
     let old = units_on geometry (front ++ (row_uses geometry row ++ back)) in
     let new = units_on geometry (front ++ back) in
     let apart : AllPairs Agree (group_uses front g ++ (map (use_in g) row.masks ++ group_uses back g)) =
-      subst (AllPairs Agree) (between front back g row.masks) (agree_in (front ++ (row_uses geometry row ++ back)) g pairs) in
+    subst (AllPairs Agree) (between front back g row.masks) (agree_in (front ++ (row_uses geometry row ++ back)) g pairs) in
     ap (λ units. set groups g (freed_units units row.keys)) (group_is geometry (front ++ (row_uses geometry row ++ back)) groups g e lt)
     ∙ ap (set groups g)
-      (ap (λ ns. fold freed_at (old g) ns) (sym has.units)
-      ∙ ap (λ us. fold freed_at (units_from c us) (map unit_of row.masks)) (between front back g row.masks)
-      ∙ masks_less c g (group_uses front g) (group_uses back g) row.masks has.exist apart
-      ∙ ap (units_from c) (sym (uses_append front back g)))
+    (ap (λ ns. fold freed_at (old g) ns) (sym has.units)
+    ∙ ap (λ us. fold freed_at (units_from c us) (map unit_of row.masks)) (between front back g row.masks)
+    ∙ masks_less c g (group_uses front g) (group_uses back g) row.masks has.exist apart
+    ∙ ap (units_from c) (sym (uses_append front back g)))
     ∙ ap (λ gs. set gs g (new g)) e
     ∙ map_set [] old new (length geometry.groups) g lt (λ j ne. ap (units_from (units_count geometry j)) (beside front back g j (λ same. ne (sym same)) row.masks))
 
@@ -128,8 +128,8 @@ fewer front middle back room group unit =
 units_have_room : (geometry : Geometry) (uses : List GroupUse) (group : ℕ) → HaveRoom uses → All HasRoom (units_on geometry uses group)
 units_have_room geometry uses group room =
     All-map HasRoom (λ unit. used_from (unit_uses (group_uses uses group) unit)) (range_with_len 0 (units_count geometry group))
-      (λ i d lt. let unit = get_or (range_with_len 0 (units_count geometry group)) i d in
-        subst (λ n. n < 10000) (sym (uses_are (unit_uses (group_uses uses group) unit))) (room group unit))
+    (λ i d lt. let unit = get_or (range_with_len 0 (units_count geometry group)) i d in
+    subst (λ n. n < 10000) (sym (uses_are (unit_uses (group_uses uses group) unit))) (room group unit))
 
 -- ---- rows that serve, one after another
 
@@ -137,11 +137,11 @@ still_found : (groups : Groups) (g : ℕ) (keys : KeyUse) (key : List ℕ) → g
     → (h : ℕ) (others : KeyUse) → keys_for (units_of groups h) key ≡ Some others → keys_for (units_of (served_in groups g keys key) h) key ≡ Some others
 still_found groups g keys key lt found h others is = ⊎_elim
     (λ (e : g ≡ h).
-      let new = served_units (units_of groups g) keys key in
-      ap (λ k. keys_for (units_of (set groups g new) k) key) (sym e)
-      ∙ ap (λ us. keys_for us key) (get_or-set_same groups g new [] lt)
-      ∙ keys_again (units_of groups g) key keys found
-      ∙ sym found ∙ ap (λ k. keys_for (units_of groups k) key) e ∙ is)
+    let new = served_units (units_of groups g) keys key in
+    ap (λ k. keys_for (units_of (set groups g new) k) key) (sym e)
+    ∙ ap (λ us. keys_for us key) (get_or-set_same groups g new [] lt)
+    ∙ keys_again (units_of groups g) key keys found
+    ∙ sym found ∙ ap (λ k. keys_for (units_of groups k) key) e ∙ is)
     (λ (ne : g ≢ h). ap (λ us. keys_for us key) (get_or-set_other groups g h (served_units (units_of groups g) keys key) [] (λ same. ne (sym same))) ∙ is)
     (cases_eq g h)
 
@@ -151,7 +151,8 @@ still_new geometry key front more row is =
     record {
       has = is.has;
       new = All-weaker (TakesKey key (group_uses front g)) (TakesKey key (group_uses (front ++ more) g))
-        (λ u takes none. takes (still_empty (group_uses front g) (group_uses more g) u.unit (ap (λ us. unit_uses us u.unit) (sym (uses_append front more g)) ∙ none))) row.masks is.new }
+          (λ u takes none. takes (still_empty (group_uses front g) (group_uses more g) u.unit (ap (λ us. unit_uses us u.unit) (sym (uses_append front more g)) ∙ none))) row.masks is.new;
+    }
 
 abbrev pub uses_of_rows : Geometry → List Row → List GroupUse
 uses_of_rows geometry rows = flat_map (row_uses geometry) rows
@@ -180,18 +181,22 @@ serves geometry key front back (Some row ∷ slots) groups e new found pairs roo
     let now = row_more geometry key front back row groups e is (subst (AllPairs AgreeOnUnits) (append_assoc front a back) (pairs_cut AgreeOnUnits (front ++ a) b back later)) in
     let next = with_use geometry key groups (Some row) in
     let more = serves geometry key (front ++ a) back slots next
-      (now ∙ ap (groups_for geometry) (sym (append_assoc front a back)))
-      (All-weaker (IsNew geometry key front) (IsNew geometry key (front ++ a)) (λ r n. still_new geometry key front a r n) (there slots) (All-tail (IsNew geometry key front) row (there slots) new))
-      (All-weaker (Finds geometry key groups) (Finds geometry key next) (λ r f. still_found groups g row.keys key inside finds (group_of geometry r) r.keys f) (there slots)
-        (All-tail (Finds geometry key groups) row (there slots) found))
-      later (subst HaveRoom (sym whole) room) in
-    ((record {
-        array = is.has.array;
-        group = inside;
-        room = subst (All HasRoom) (sym (group_is geometry (front ++ back) groups g e lt)) (units_have_room geometry (front ++ back) g (fewer front (a ++ b) back room));
-        keys = finds },
-      more.0),
-    more.1 ∙ ap (groups_for geometry) whole)
+    (now ∙ ap (groups_for geometry) (sym (append_assoc front a back)))
+    (All-weaker (IsNew geometry key front) (IsNew geometry key (front ++ a)) (λ r n. still_new geometry key front a r n) (there slots) (All-tail (IsNew geometry key front) row (there slots) new))
+    (All-weaker (Finds geometry key groups) (Finds geometry key next) (λ r f. still_found groups g row.keys key inside finds (group_of geometry r) r.keys f) (there slots)
+    (All-tail (Finds geometry key groups) row (there slots) found))
+    later (subst HaveRoom (sym whole) room) in (
+      (
+        record {
+          array = is.has.array;
+          group = inside;
+          room = subst (All HasRoom) (sym (group_is geometry (front ++ back) groups g e lt)) (units_have_room geometry (front ++ back) g (fewer front (a ++ b) back room));
+          keys = finds;
+        },
+        more.0,
+      ),
+      more.1 ∙ ap (groups_for geometry) whole,
+    )
 
 -- ---- rows that go
 
@@ -216,21 +221,21 @@ row_in_use geometry front back row has =
     let us = front ++ (row_uses geometry row ++ back) in
     let units = units_on geometry us g in
     let here : (unit : ℕ) → unit < c → times_in row.keys unit ≤ uses_of (unit_at units unit) =
-      λ unit lt.
-        let is : uses_of (unit_at units unit) ≡ count_of us g unit =
-          ap uses_of (at_range None (λ k. used_from (unit_uses (group_uses us g) k)) c unit lt) ∙ uses_are (unit_uses (group_uses us g) unit) in
-        let split : count_of us g unit ≡ length (unit_uses (group_uses front g ++ (map (use_in g) row.masks ++ group_uses back g)) unit) =
-          ap (λ xs. length (unit_uses xs unit)) (between front back g row.masks) in
-        let test = (λ (u : GroupUse). u.unit == unit) in
-        let one = ap length (filter-append test (group_uses front g) (map (use_in g) row.masks ++ group_uses back g))
-          ∙ length-append (unit_uses (group_uses front g) unit) (unit_uses (map (use_in g) row.masks ++ group_uses back g) unit) in
-        let two = ap length (filter-append test (map (use_in g) row.masks) (group_uses back g))
-          ∙ length-append (unit_uses (map (use_in g) row.masks) unit) (unit_uses (group_uses back g) unit) in
-        let three = own_count g row.masks unit ∙ ap (count_by (λ other. other == unit)) has.units in
-        omega (arith, is, split, one, two, three) in
+    λ unit lt.
+    let is : uses_of (unit_at units unit) ≡ count_of us g unit =
+    ap uses_of (at_range None (λ k. used_from (unit_uses (group_uses us g) k)) c unit lt) ∙ uses_are (unit_uses (group_uses us g) unit) in
+    let split : count_of us g unit ≡ length (unit_uses (group_uses front g ++ (map (use_in g) row.masks ++ group_uses back g)) unit) =
+    ap (λ xs. length (unit_uses xs unit)) (between front back g row.masks) in
+    let test = (λ (u : GroupUse). u.unit == unit) in
+    let one = ap length (filter-append test (group_uses front g) (map (use_in g) row.masks ++ group_uses back g))
+    ∙ length-append (unit_uses (group_uses front g) unit) (unit_uses (map (use_in g) row.masks ++ group_uses back g) unit) in
+    let two = ap length (filter-append test (map (use_in g) row.masks) (group_uses back g))
+    ∙ length-append (unit_uses (map (use_in g) row.masks) unit) (unit_uses (group_uses back g) unit) in
+    let three = own_count g row.masks unit ∙ ap (count_by (λ other. other == unit)) has.units in
+    omega (arith, is, split, one, two, three) in
     subst (All (λ unit. times_in row.keys unit ≤ uses_of (unit_at units unit))) has.units
-      (All-map (λ unit. times_in row.keys unit ≤ uses_of (unit_at units unit)) unit_of row.masks
-        (All-weaker (λ (u : UnitMask). u.unit < c) (λ (u : UnitMask). times_in row.keys u.unit ≤ uses_of (unit_at units u.unit)) (λ u lt. here u.unit lt) row.masks has.exist))
+    (All-map (λ unit. times_in row.keys unit ≤ uses_of (unit_at units unit)) unit_of row.masks
+    (All-weaker (λ (u : UnitMask). u.unit < c) (λ (u : UnitMask). times_in row.keys u.unit ≤ uses_of (unit_at units u.unit)) (λ u lt. here u.unit lt) row.masks has.exist))
 
 pub frees : (geometry : Geometry) (front back : List GroupUse) (slots : List (Option Row)) (groups : Groups)
     → groups ≡ groups_for geometry (front ++ (uses_of_rows geometry (there slots) ++ back)) → All (HasUnits geometry) (there slots)
@@ -249,10 +254,14 @@ frees geometry front back (Some row ∷ slots) groups e has pairs =
     let long = length-groups geometry (front ++ (a ++ (b ++ back))) groups was in
     let apart = subst (AllPairs AgreeOnUnits) whole pairs in
     let now = row_less geometry front (b ++ back) row groups was first apart in
-    let more = frees geometry front back slots (less_use geometry groups (Some row)) now (All-tail (HasUnits geometry) row (there slots) has) (pairs_cut AgreeOnUnits front a (b ++ back) apart) in
-    ((record {
-        array = first.array;
-        group = omega (arith, lt, long);
-        in_use = subst (λ units. AreInUse units row.keys) (sym (group_is geometry (front ++ (a ++ (b ++ back))) groups g was lt)) (row_in_use geometry front (b ++ back) row first) },
-      more.0),
-    more.1)
+    let more = frees geometry front back slots (less_use geometry groups (Some row)) now (All-tail (HasUnits geometry) row (there slots) has) (pairs_cut AgreeOnUnits front a (b ++ back) apart) in (
+      (
+        record {
+          array = first.array;
+          group = omega (arith, lt, long);
+          in_use = subst (λ units. AreInUse units row.keys) (sym (group_is geometry (front ++ (a ++ (b ++ back))) groups g was lt)) (row_in_use geometry front (b ++ back) row first);
+        },
+        more.0,
+      ),
+      more.1,
+    )

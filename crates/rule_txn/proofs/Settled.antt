@@ -62,13 +62,15 @@ joins : (front middle back : List Spot) (s : Spot) → AllPairs SpotsDiffer (fro
     → Joins front back s × All (λ x. SpotsDiffer x s) front
 joins front middle back s differ apart =
     let bases : Around SpotsDiffer front (middle ++ back) s = around SpotsDiffer front (middle ++ back) s differ in
-    let filters : Around MatchNone front (middle ++ back) s = around MatchNone front (middle ++ back) s apart in
-    (record {
-      bases = All-append (λ x. SpotsDiffer x s) front back bases.before
-        (All-weaker (SpotsDiffer s) (λ x. SpotsDiffer x s) (λ x d. differ_turned s x d) back (all_back (SpotsDiffer s) middle back bases.after));
-      filters = All-append (λ x. MatchNone x s) front back filters.before
-        (All-weaker (MatchNone s) (λ x. MatchNone x s) (λ x d. match_turned s x d) back (all_back (MatchNone s) middle back filters.after)) },
-    bases.before)
+    let filters : Around MatchNone front (middle ++ back) s = around MatchNone front (middle ++ back) s apart in (
+      record {
+        bases = All-append (λ x. SpotsDiffer x s) front back bases.before
+            (All-weaker (SpotsDiffer s) (λ x. SpotsDiffer x s) (λ x d. differ_turned s x d) back (all_back (SpotsDiffer s) middle back bases.after));
+        filters = All-append (λ x. MatchNone x s) front back filters.before
+            (All-weaker (MatchNone s) (λ x. MatchNone x s) (λ x d. match_turned s x d) back (all_back (MatchNone s) middle back filters.after));
+      },
+      bases.before,
+    )
 
 -- what holds of the entries of rows that settle between others
 pub record MaySettle (geometry : Geometry) (front here back : List Spot) : Type 0 where
@@ -82,7 +84,7 @@ pub settles : (geometry : Geometry) (task : Sketch) (turn : Turn) (front back : 
     → turn.row + length (there slots) ≤ task.rows → (turn.before ≡ None) ↔ (turn.row ≡ 0)
     → MaySettle geometry front (spots_from task turn.row turn.before (there slots)) back
     → CanSettleAll geometry task turn tables slots
-      × (map placed_table (with_rows task turn tables slots) ≡ tables_for geometry (front ++ (spots_from task turn.row turn.before (there slots) ++ back)))
+    × (map placed_table (with_rows task turn tables slots) ≡ tables_for geometry (front ++ (spots_from task turn.row turn.before (there slots) ++ back)))
 settles geometry task turn front back [] tables e few first may = (tt, e)
 settles geometry task turn front back (None ∷ slots) tables e few first may =
     let more = settles geometry task turn front back slots tables e few first may in ((tt, more.0), more.1)
@@ -97,22 +99,27 @@ settles geometry task turn front back (Some row ∷ slots) tables e few first ma
     let assoc = append_assoc front (s ∷ []) back in
     let whole = append_assoc front (s ∷ []) (later ++ back) in
     let more = settles geometry task next (front ++ s ∷ []) back slots (installed tables row.array s.entry)
-      (one.now ∙ ap (tables_for geometry) (sym assoc))
-      (omega (arith, few))
-      ((λ none. absurd (cc)), (λ zero_. absurd (omega (arith, zero_))))
-      (record {
-        stand = All-tail (MayStand geometry) s later may.stand;
-        differ = subst (AllPairs SpotsDiffer) (sym whole) may.differ;
-        apart = subst (AllPairs MatchNone) (sym whole) may.apart;
-        few = λ a lt. subst (λ spots. length (rules_on spots a) ≤ 2 ^ geometry.split) (sym whole) (may.few a lt) }) in
-    ((record {
-        few = omega (arith, few);
-        first = first;
-        array = here.array;
-        fits = here.fits;
-        table = record { few = subst (λ n. n < 2 ^ geometry.split) (sym one.long) room; apart = one.apart; base = one.base } },
-      more.0),
-    more.1 ∙ ap (tables_for geometry) whole)
+    (one.now ∙ ap (tables_for geometry) (sym assoc))
+    (omega (arith, few))
+    ((λ none. absurd (cc)), (λ zero_. absurd (omega (arith, zero_))))
+    (record {
+      stand = All-tail (MayStand geometry) s later may.stand;
+      differ = subst (AllPairs SpotsDiffer) (sym whole) may.differ;
+      apart = subst (AllPairs MatchNone) (sym whole) may.apart;
+      few = λ a lt. subst (λ spots. length (rules_on spots a) ≤ 2 ^ geometry.split) (sym whole) (may.few a lt);
+    }) in (
+      (
+        record {
+          few = omega (arith, few);
+          first = first;
+          array = here.array;
+          fits = here.fits;
+          table = record { few = subst (λ n. n < 2 ^ geometry.split) (sym one.long) room; apart = one.apart; base = one.base };
+        },
+        more.0,
+      ),
+      more.1 ∙ ap (tables_for geometry) whole,
+    )
 
 -- ---- rows that leave
 
@@ -131,5 +138,5 @@ leaves geometry task i before front back (Some row ∷ slots) tables e within di
     let lt = All-head (λ (t : Spot). t.array < array_count geometry) s later within in
     let one = uninstall_one geometry front (later ++ back) s tables e lt near.before in
     let more = leaves geometry task (i + 1) (Some row.array) front back slots (uninstalled tables row.array row.region.base) one.1
-      (All-tail (λ (t : Spot). t.array < array_count geometry) s later within) near.others in
+    (All-tail (λ (t : Spot). t.array < array_count geometry) s later within) near.others in
     ((record { array = lt; entry = one.0 }, more.0), more.1)

@@ -50,6 +50,7 @@ all_put p first x (y ∷ ys) = by (all_put p first x ys) (first x y)
     swap true b c = refl
     swap false true c = refl
     swap false false c = refl
+
     by : list_all p (put_by first x ys) ≡ (p x && list_all p ys) → (b : Bool) → list_all p (cond b (x ∷ y ∷ ys) (y ∷ put_by first x ys)) ≡ (p x && (p y && list_all p ys))
     by rest true = refl
     by rest false = ap (λ b. p y && b) rest ∙ swap (p x) (p y) (list_all p ys)
@@ -66,6 +67,7 @@ any_put p first x (y ∷ ys) = by (any_put p first x ys) (first x y)
     swap true true c = refl
     swap true false c = refl
     swap false b c = refl
+
     by : list_any p (put_by first x ys) ≡ (p x || list_any p ys) → (b : Bool) → list_any p (cond b (x ∷ y ∷ ys) (y ∷ put_by first x ys)) ≡ (p x || (p y || list_any p ys))
     by rest true = refl
     by rest false = ap (λ b. p y || b) rest ∙ swap (p x) (p y) (list_any p ys)
@@ -78,8 +80,8 @@ all_on p a (s ∷ spots) each = by (all_on p a spots (All-tail (λ (t : Spot). t
     by : list_all p (rules_on spots a) ≡ true → (b : Bool) → (s.array == a) ≡ b
         → list_all p (map entry_in (cond b (s ∷ filter (λ (t : Spot). t.array == a) spots) (filter (λ (t : Spot). t.array == a) spots))) ≡ true
     by rest true e =
-      let same : s.array ≡ a = grind (arith, nat_tests) in
-      ap (λ b. b && list_all p (rules_on spots a)) (All-head (λ (t : Spot). t.array ≡ a → p t.entry ≡ true) s spots each same) ∙ rest
+        let same : s.array ≡ a = grind (arith, nat_tests) in
+        ap (λ b. b && list_all p (rules_on spots a)) (All-head (λ (t : Spot). t.array ≡ a → p t.entry ≡ true) s spots each same) ∙ rest
     by rest false e = rest
 
 -- and one that none passes
@@ -90,8 +92,8 @@ none_on p a (s ∷ spots) each = by (none_on p a spots (All-tail (λ (t : Spot).
     by : list_any p (rules_on spots a) ≡ false → (b : Bool) → (s.array == a) ≡ b
         → list_any p (map entry_in (cond b (s ∷ filter (λ (t : Spot). t.array == a) spots) (filter (λ (t : Spot). t.array == a) spots))) ≡ false
     by rest true e =
-      let same : s.array ≡ a = grind (arith, nat_tests) in
-      ap (λ b. b || list_any p (rules_on spots a)) (All-head (λ (t : Spot). t.array ≡ a → p t.entry ≡ false) s spots each same) ∙ rest
+        let same : s.array ≡ a = grind (arith, nat_tests) in
+        ap (λ b. b || list_any p (rules_on spots a)) (All-head (λ (t : Spot). t.array ≡ a → p t.entry ≡ false) s spots each same) ∙ rest
     by rest false e = rest
 
 pub count_append : (xs ys : List Spot) (a : ℕ) → length (rules_on (xs ++ ys) a) ≡ length (rules_on xs a) + length (rules_on ys a)
@@ -141,14 +143,14 @@ more_rules : (geometry : Geometry) (front back : List Spot) (s : Spot) → s.arr
 unfolding tables_for
 more_rules geometry front back s lt =
     map_set no_table (table_for geometry (front ++ back)) (table_for geometry (front ++ s ∷ back)) (array_count geometry) s.array lt
-      (λ j ne. ap (table_with (2 ^ geometry.split)) (sym (off_place array_in entry_in base_at front back s j (λ same. ne (sym same)))))
+    (λ j ne. ap (table_with (2 ^ geometry.split)) (sym (off_place array_in entry_in base_at front back s j (λ same. ne (sym same)))))
 
 less_rules : (geometry : Geometry) (front back : List Spot) (s : Spot) → s.array < array_count geometry
     → set (tables_for geometry (front ++ s ∷ back)) s.array (table_for geometry (front ++ back) s.array) ≡ tables_for geometry (front ++ back)
 unfolding tables_for
 less_rules geometry front back s lt =
     map_set no_table (table_for geometry (front ++ s ∷ back)) (table_for geometry (front ++ back)) (array_count geometry) s.array lt
-      (λ j ne. ap (table_with (2 ^ geometry.split)) (off_place array_in entry_in base_at front back s j (λ same. ne (sym same))))
+    (λ j ne. ap (table_with (2 ^ geometry.split)) (off_place array_in entry_in base_at front back s j (λ same. ne (sym same))))
 
 -- what is to be known of an entry and those that stand
 pub record Joins (front back : List Spot) (s : Spot) : Type 0 where
@@ -187,20 +189,21 @@ install_one geometry front back s tables e lt joins before =
     let sorted : sort_key base_at old ≡ sorted_on (front ++ back) s.array = ap (λ (t : EntryTable). t.entries) was in
     let rules = rules_on (front ++ back) s.array in
     let none : list_any (has_base k) old ≡ false =
-      sym (any_sorted (has_base k) (by_key base_at) old) ∙ ap (list_any (has_base k)) sorted ∙ any_sorted (has_base k) (by_key base_at) rules
-      ∙ none_on (has_base k) s.array (front ++ back) (All-weaker (λ x. SpotsDiffer x s) (λ (x : Spot). x.array ≡ s.array → has_base k x.entry ≡ false) (λ x differ. bases_apart s x differ) (front ++ back) joins.bases) in
+    sym (any_sorted (has_base k) (by_key base_at) old) ∙ ap (list_any (has_base k)) sorted ∙ any_sorted (has_base k) (by_key base_at) rules
+    ∙ none_on (has_base k) s.array (front ++ back) (All-weaker (λ x. SpotsDiffer x s) (λ (x : Spot). x.array ≡ s.array → has_base k x.entry ≡ false) (λ x differ. bases_apart s x differ) (front ++ back) joins.bases) in
     let p : Entry → Bool = is_apart s.entry.filter in
     record {
       apart = sym (all_sorted p (by_key base_at) old) ∙ ap (list_all p) sorted ∙ all_sorted p (by_key base_at) rules
-        ∙ all_on p s.array (front ++ back) joins.filters;
+          ∙ all_on p s.array (front ++ back) joins.filters;
       base = none;
       long = sym (length_sorted (by_key base_at) old) ∙ ap length sorted ∙ length_sorted (by_key base_at) rules;
       now = map-set placed_table tables s.array (with_entry table s.entry)
-        ∙ ap (set (map placed_table tables) s.array)
+          ∙ ap (set (map placed_table tables) s.array)
           (ap₂ table_with (ap (λ (t : EntryTable). t.room) was)
-            (sort_last base_at old s.entry (differ_all k old none) ∙ ap (put_key base_at s.entry) sorted ∙ sym (on_place array_in entry_in base_at front back s before)))
-        ∙ ap (λ ts. set ts s.array (table_for geometry (front ++ s ∷ back) s.array)) e
-        ∙ more_rules geometry front back s lt }
+          (sort_last base_at old s.entry (differ_all k old none) ∙ ap (put_key base_at s.entry) sorted ∙ sym (on_place array_in entry_in base_at front back s before)))
+          ∙ ap (λ ts. set ts s.array (table_for geometry (front ++ s ∷ back) s.array)) e
+          ∙ more_rules geometry front back s lt;
+    }
 
 pub uninstall_one : (geometry : Geometry) (front back : List Spot) (s : Spot) (tables : List EntryTable) → map placed_table tables ≡ tables_for geometry (front ++ s ∷ back)
     → s.array < array_count geometry → All (λ x. SpotsDiffer x s) front
@@ -212,10 +215,11 @@ uninstall_one geometry front back s tables e lt before =
     let was : placed_table table ≡ table_for geometry (front ++ s ∷ back) s.array = table_is geometry (front ++ s ∷ back) tables s.array e lt in
     let sorted : sort_key base_at old ≡ put_key base_at s.entry (sorted_on (front ++ back) s.array) = ap (λ (t : EntryTable). t.entries) was ∙ on_place array_in entry_in base_at front back s before in
     let found : list_any (has_base k) old ≡ true =
-      sym (any_sorted (has_base k) (by_key base_at) old) ∙ ap (list_any (has_base k)) sorted ∙ any_put (has_base k) (by_key base_at) s.entry (sorted_on (front ++ back) s.array)
-      ∙ ap (λ t. t || list_any (has_base k) (sorted_on (front ++ back) s.array)) (eq-eqb k k refl) in
-    (found,
+    sym (any_sorted (has_base k) (by_key base_at) old) ∙ ap (list_any (has_base k)) sorted ∙ any_put (has_base k) (by_key base_at) s.entry (sorted_on (front ++ back) s.array)
+    ∙ ap (λ t. t || list_any (has_base k) (sorted_on (front ++ back) s.array)) (eq-eqb k k refl) in (
+      found,
       map-set placed_table tables s.array (without_entry table k)
-      ∙ ap (set (map placed_table tables) s.array) (ap₂ table_with (ap (λ (t : EntryTable). t.room) was) (sorted_cut base_at s.entry old (sorted_on (front ++ back) s.array) found sorted))
-      ∙ ap (λ ts. set ts s.array (table_for geometry (front ++ back) s.array)) e
-      ∙ less_rules geometry front back s lt)
+          ∙ ap (set (map placed_table tables) s.array) (ap₂ table_with (ap (λ (t : EntryTable). t.room) was) (sorted_cut base_at s.entry old (sorted_on (front ++ back) s.array) found sorted))
+          ∙ ap (λ ts. set ts s.array (table_for geometry (front ++ back) s.array)) e
+          ∙ less_rules geometry front back s lt,
+    )

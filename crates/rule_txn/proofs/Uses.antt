@@ -60,8 +60,8 @@ same_masks (x ∷ us) u agree = by (same_masks us u (All-tail (λ v. Agree v u) 
     by : All (λ (v : GroupUse). v.mask ≡ u.mask) (unit_uses us u.unit) → (b : Bool) → (x.unit == u.unit) ≡ b
         → All (λ (v : GroupUse). v.mask ≡ u.mask) (cond b (x ∷ unit_uses us u.unit) (unit_uses us u.unit))
     by rest true e =
-      let same : x.unit ≡ u.unit = grind (arith, nat_tests) in
-      All-cons (λ (v : GroupUse). v.mask ≡ u.mask) x (unit_uses us u.unit) (All-head (λ v. Agree v u) x us agree same) rest
+        let same : x.unit ≡ u.unit = grind (arith, nat_tests) in
+        All-cons (λ (v : GroupUse). v.mask ≡ u.mask) x (unit_uses us u.unit) (All-head (λ v. Agree v u) x us agree same) rest
     by rest false e = rest
 
 unit_served : (front back : List GroupUse) (u : GroupUse) (key : List ℕ) → All (λ v. Agree v u) (front ++ back) → (unit_uses (front ++ back) u.unit ≡ [] → u.mask ≡ key)
@@ -70,7 +70,7 @@ unit_served front back u key agree new =
     let split = filter-append (λ (v : GroupUse). v.unit == u.unit) front back in
     ap used_from (uses_on front back u)
     ∙ busy_more (unit_uses front u.unit) (unit_uses back u.unit) u key (subst (All (λ (v : GroupUse). v.mask ≡ u.mask)) split (same_masks (front ++ back) u agree))
-      (λ none. new (split ∙ none))
+    (λ none. new (split ∙ none))
     ∙ ap (λ us. served key (used_from us)) (sym split)
 
 -- serving is one use more, anywhere in the list
@@ -136,12 +136,12 @@ masks_more count group key front back (u ∷ ms) within pairs new =
     let agree = all_cut (λ w. Agree w v) front later back (agree_around front later back v pairs) in
     let whole = append_assoc front (v ∷ []) (later ++ back) in
     ap (λ units. fold (served_at key) units (map unit_of ms))
-      (units_more count front back v key (All-head (λ (w : UnitMask). w.unit < count) u ms within) agree
-        (λ none. All-head (TakesKey key front) u ms new (still_empty front back u.unit none))
-      ∙ ap (units_from count) (sym (append_assoc front (v ∷ []) back)))
+    (units_more count front back v key (All-head (λ (w : UnitMask). w.unit < count) u ms within) agree
+    (λ none. All-head (TakesKey key front) u ms new (still_empty front back u.unit none))
+    ∙ ap (units_from count) (sym (append_assoc front (v ∷ []) back)))
     ∙ masks_more count group key (front ++ v ∷ []) back ms (All-tail (λ (w : UnitMask). w.unit < count) u ms within)
-      (subst (AllPairs Agree) (sym whole) pairs)
-      (All-weaker (TakesKey key front) (TakesKey key (front ++ v ∷ [])) (λ w t none. t (still_empty front (v ∷ []) w.unit none)) ms (All-tail (TakesKey key front) u ms new))
+    (subst (AllPairs Agree) (sym whole) pairs)
+    (All-weaker (TakesKey key front) (TakesKey key (front ++ v ∷ [])) (λ w t none. t (still_empty front (v ∷ []) w.unit none)) ms (All-tail (TakesKey key front) u ms new))
     ∙ ap (units_from count) whole
 
 pub masks_less : (count group : ℕ) (front back : List GroupUse) (ms : List UnitMask)
@@ -153,7 +153,7 @@ masks_less count group front back (u ∷ ms) within pairs =
     let later = map (use_in group) ms in
     let near : Around Agree front (later ++ back) v = around Agree front (later ++ back) v pairs in
     ap (λ units. fold freed_at units (map unit_of ms))
-      (units_less count front (later ++ back) v (All-head (λ (w : UnitMask). w.unit < count) u ms within) (agree_around front later back v pairs))
+    (units_less count front (later ++ back) v (All-head (λ (w : UnitMask). w.unit < count) u ms within) (agree_around front later back v pairs))
     ∙ masks_less count group front back ms (All-tail (λ (w : UnitMask). w.unit < count) u ms within) near.others
 
 -- ---- the uses of a group
@@ -200,4 +200,4 @@ all_of_group (x ∷ us) group = by (all_of_group us group) (x.group == group) re
 pub agree_in : (us : List GroupUse) (group : ℕ) → AllPairs AgreeOnUnits us → AllPairs Agree (group_uses us group)
 agree_in us group pairs =
     pairs_known (λ (u : GroupUse). u.group ≡ group) AgreeOnUnits Agree (λ one two first second agree same. agree.same (first ∙ sym second) same)
-      (group_uses us group) (all_of_group us group) (AllPairs-filter AgreeOnUnits (λ (u : GroupUse). u.group == group) us pairs)
+    (group_uses us group) (all_of_group us group) (AllPairs-filter AgreeOnUnits (λ (u : GroupUse). u.group == group) us pairs)

@@ -63,4 +63,5 @@ first_state geometry hash_key = record {
   hash_key = hash_key;
   pools = pools_for geometry [];
   tables = (first_rules geometry hash_key).tables;
-  groups = (first_rules geometry hash_key).groups }
+  groups = (first_rules geometry hash_key).groups;
+}

@@ -88,7 +88,12 @@ impl Switch {
     /// Moves the rows of a task to the lowest free partitions of another size, with their registers
     /// at what the kind starts with. The old partitions are frozen: they keep their registers and
     /// take no packets.
-    pub fn resize<R: RegFile>(&mut self, regs: &mut R, name: &Name, size: u32) -> Result<(), ResizeFault>
+    pub fn resize<R: RegFile>(
+        &mut self,
+        regs: &mut R,
+        name: &Name,
+        size: u32,
+    ) -> Result<(), ResizeFault>
         requires { IsShaped self.old.geometry (R.dims regs.old) }
         ensures answer { Answers resize_cause (judged self.old.geometry self.old.outlines (Resize name.now size)) result self.old self.new }
         ensures later { R.faults regs.old ≤ R.faults regs.new }
@@ -122,7 +127,11 @@ impl Switch {
             Ok(leases) => {
                 let sized = with_size(&task, size);
                 let rows = self.stage.move_all(&sized, rows, leases);
-                put_at(&mut self.records, at, Kept::new(sized, Some(task.size()), rows));
+                put_at(
+                    &mut self.records,
+                    at,
+                    Kept::new(sized, Some(task.size()), rows),
+                );
                 Ok(())
             }
         }

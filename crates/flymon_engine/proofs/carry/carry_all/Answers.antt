@@ -34,11 +34,11 @@ returns-in-Err-clause-run g c = let r = g.R.RegFile in let f = g.F.Files in let 
     let command = work_of c.command-item.result in
     let here = carried m.rules start (take index commands) in
     let whole : take index commands ++ command ∷ drop (index + 1) commands ≡ commands =
-        works_whole c.args.commands.now index c.command-item.result c.commands-test.true c.command-item.is in
+    works_whole c.args.commands.now index c.command-item.result c.commands-test.true c.command-item.is in
     then_where (f.slots c.commands.files).capture.cursor (f.slots c.carry_one.new.files).capture.cursor (r.contents c.commands.regs) (r.contents c.carry_one.new.regs)
     (λ t d reaches. reaches.now)
     (λ t d u e reaches halts. stops_at m.rules (m.stands c.carry_one.new.machine) before (r.calls c.carry_one.new.regs) (o.sent c.carry_one.new.out)
-        start (take index commands) (drop (index + 1) commands) commands command c.in-Err.halt u e whole reaches.unmet halts)
+    start (take index commands) (drop (index + 1) commands) commands command c.in-Err.halt u e whole reaches.unmet halts)
     c.carry_one.ensures.cursor c.carry_one.ensures.cells (c.in-Err.ensures.run before here)
     (c.commands.invariant.run before start at)
 
@@ -64,7 +64,7 @@ commands-preserved g c = let r = g.R.RegFile in let f = g.F.Files in let m = g.M
       then_where (f.slots c.commands.files).capture.cursor (f.slots c.carry_one.new.files).capture.cursor (r.contents c.commands.regs) (r.contents c.carry_one.new.regs)
       (λ t d reaches. reaches.now)
       (λ t d u e reaches to. reaches_more m.rules (m.stands c.carry_one.new.machine) (Comes c.carry_one.new.capture) before (r.calls c.carry_one.new.regs) (o.sent c.carry_one.new.out)
-          start (take index commands) (take (index + 1) commands) command u e (works_next c.args.commands.now index c.command-item.result c.commands-test.true c.command-item.is) reaches.unmet to)
+      start (take index commands) (take (index + 1) commands) command u e (works_next c.args.commands.now index c.command-item.result c.commands-test.true c.command-item.is) reaches.unmet to)
       c.carry_one.ensures.cursor c.carry_one.ensures.cells (c.in-Ok.ensures.run before here)
       (c.commands.invariant.run before start at);
 }
@@ -73,7 +73,7 @@ pub returns-clause-run : goal.returns-clause-run
 returns-clause-run g c = let r = g.R.RegFile in let f = g.F.Files in let m = g.M.Machine in let o = g.O.Sink in
     λ before start at. where_weaker (f.slots c.commands.files).capture.cursor (r.contents c.commands.regs)
     (λ t d. finishes m.rules (m.stands c.commands.machine) (Comes c.commands.capture) before (r.calls c.commands.regs) (o.sent c.commands.out) start
-        (take c.commands.command-index (works_of c.args.commands.now)) (works_of c.args.commands.now) t d (works_all c.args.commands.now c.commands.command-index (omega arith)))
+    (take c.commands.command-index (works_of c.args.commands.now)) (works_of c.args.commands.now) t d (works_all c.args.commands.now c.commands.command-index (omega arith)))
     (c.commands.invariant.run before start at)
 
 pub returns-in-Err-clause-cursor : goal.returns-in-Err-clause-cursor

@@ -13,9 +13,9 @@ returns-in-Change-clause-run g c = let r = g.R.RegFile in let f = g.F.Files in l
     λ before run at.
     where_cells (f.slots c.args.files.now).capture.cursor (r.contents c.args.regs.now) (r.contents c.change_tasks.new.regs)
     (λ t d e goes is. subst (λ (x : Work). Goes m.rules (m.stands c.change_tasks.new.machine) (Comes c.args.capture.now) before (r.calls c.change_tasks.new.regs) (o.sent c.change_tasks.new.out) c.change_tasks.result run x t e)
-        c.in-Change.ensures
-        (goes_at m.rules (m.stands c.args.machine.now) (m.stands c.change_tasks.new.machine) (Comes c.args.capture.now) before (r.calls c.args.regs.now) (r.calls c.change_tasks.new.regs)
-        (o.sent c.args.out.now) (o.sent c.change_tasks.new.out) run (Change c.in-Change.change) c.change_tasks.result t d e (change_stays m.rules run c.in-Change.change) goes is))
+    c.in-Change.ensures
+    (goes_at m.rules (m.stands c.args.machine.now) (m.stands c.change_tasks.new.machine) (Comes c.args.capture.now) before (r.calls c.args.regs.now) (r.calls c.change_tasks.new.regs)
+    (o.sent c.args.out.now) (o.sent c.change_tasks.new.out) run (Change c.in-Change.change) c.change_tasks.result t d e (change_stays m.rules run c.in-Change.change) goes is))
     (c.change_tasks.ensures.run before run) at
 
 pub returns-in-Ask-clause-run : goal.returns-in-Ask-clause-run
@@ -23,9 +23,9 @@ returns-in-Ask-clause-run g c = let r = g.R.RegFile in let f = g.F.Files in let 
     λ before run at.
     where_cells (f.slots c.args.files.now).capture.cursor (r.contents c.args.regs.now) (r.contents c.ask.new.regs)
     (λ t d e goes is. subst (λ (x : Work). Goes m.rules (m.stands c.ask.new.machine) (Comes c.args.capture.now) before (r.calls c.ask.new.regs) (o.sent c.ask.new.out) c.ask.result run x t e)
-        c.in-Ask.ensures
-        (goes_at m.rules (m.stands c.args.machine.now) (m.stands c.ask.new.machine) (Comes c.args.capture.now) before (r.calls c.args.regs.now) (r.calls c.ask.new.regs)
-        (o.sent c.args.out.now) (o.sent c.ask.new.out) run (Ask c.in-Ask.request) c.ask.result t d e (ask_stays m.rules run c.in-Ask.request) goes is))
+    c.in-Ask.ensures
+    (goes_at m.rules (m.stands c.args.machine.now) (m.stands c.ask.new.machine) (Comes c.args.capture.now) before (r.calls c.args.regs.now) (r.calls c.ask.new.regs)
+    (o.sent c.args.out.now) (o.sent c.ask.new.out) run (Ask c.in-Ask.request) c.ask.result t d e (ask_stays m.rules run c.in-Ask.request) goes is))
     (c.ask.ensures.run before run) at
 
 pub returns-in-Take-clause-run : goal.returns-in-Take-clause-run
@@ -33,5 +33,5 @@ returns-in-Take-clause-run g c = let r = g.R.RegFile in let f = g.F.Files in let
     λ before run at.
     where_weaker (f.slots c.take.new.files).capture.cursor (r.contents c.take.new.regs)
     (λ t d goes. subst (λ (x : Work). Goes m.rules (m.stands c.take.new.machine) (Comes c.take.new.capture) before (r.calls c.take.new.regs) (o.sent c.take.new.out) c.take.result run x t d)
-        c.in-Take.ensures goes)
+    c.in-Take.ensures goes)
     (c.take.ensures.run before run at)

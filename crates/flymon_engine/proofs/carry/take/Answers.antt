@@ -11,8 +11,8 @@ returns-in-Ok-clause-run g c = let r = g.R.RegFile in let f = g.F.Files in let m
     λ before run at.
     where_weaker (f.slots c.take_packets.new.files).capture.cursor (r.contents c.take_packets.new.regs)
     (λ t d took. goes_took m.rules (m.stands c.take_packets.new.machine) (Comes c.take_packets.new.capture) before (r.calls c.take_packets.new.regs)
-        (o.sent c.args.out.now) (o.sent c.send.new.out) run (Take c.args.asked) c.in-Ok.count c.line_packets.result.bytes c.send.result t d
-        refl (ap packets_line (sym took.took) ∙ sym c.line_packets.ensures) c.send.ensures.sent c.send.ensures.part c.send.ensures.output took)
+    (o.sent c.args.out.now) (o.sent c.send.new.out) run (Take c.args.asked) c.in-Ok.count c.line_packets.result.bytes c.send.result t d
+    refl (ap packets_line (sym took.took) ∙ sym c.line_packets.ensures) c.send.ensures.sent c.send.ensures.part c.send.ensures.output took)
     (c.in-Ok.ensures.run before (o.sent c.args.out.now) run at)
 
 pub returns-in-Err-clause-run : goal.returns-in-Err-clause-run

@@ -52,11 +52,11 @@ packets-preserved g c = let r = g.R.RegFile in let f = g.F.Files in let m = g.M.
       let found : c.next_packet.result ≡ Ok (Some c.in-Ok-Some.packet) = c.in-Ok-Some.is ∙ ap Ok c.in-Ok-Some.field-0-is in
       where_then (f.slots c.packets.files).capture.cursor (f.slots c.next_packet.new.files).capture.cursor (r.contents c.packets.regs) (r.contents c.pass.new.regs)
       (λ t u d e next moves took. took_one m.rules (m.stands c.packets.machine) (m.stands c.pass.new.self) (Comes c.packets.capture) (Comes c.next_packet.new.capture) before
-          (r.calls c.packets.regs) (r.calls c.pass.new.regs) sent c.packets.taken run c.in-Ok-Some.packet t u d e next.0
-          (subst (λ (x : Result (Option Packet) CaptureFault). Gives (Comes c.next_packet.new.capture) here.left x u) found (next.1 took.now.left))
-          (moves took.now.shows.board) took)
+      (r.calls c.packets.regs) (r.calls c.pass.new.regs) sent c.packets.taken run c.in-Ok-Some.packet t u d e next.0
+      (subst (λ (x : Result (Option Packet) CaptureFault). Gives (Comes c.next_packet.new.capture) here.left x u) found (next.1 took.now.left))
+      (moves took.now.shows.board) took)
       (told_both MovesOn (λ t u. Comes c.packets.capture here.left t → Gives (Comes c.next_packet.new.capture) here.left c.next_packet.result u)
-          (f.slots c.packets.files).capture.cursor (f.slots c.next_packet.new.files).capture.cursor c.next_packet.ensures.cursor (c.next_packet.ensures.next here.left))
+      (f.slots c.packets.files).capture.cursor (f.slots c.next_packet.new.files).capture.cursor c.next_packet.ensures.cursor (c.next_packet.ensures.next here.left))
       (c.pass.ensures.moves here.board)
       (c.packets.invariant.run before sent run at);
 }
@@ -68,8 +68,8 @@ returns-in-Ok-None-clause-run g c = let r = g.R.RegFile in let f = g.F.Files in 
     let found : c.next_packet.result ≡ Ok None = c.in-Ok-None.is ∙ ap Ok c.in-Ok-None.field-0-is in
     where_tape (f.slots c.packets.files).capture.cursor (f.slots c.next_packet.new.files).capture.cursor (r.contents c.packets.regs)
     (λ t u d next took. took_to_end m.rules (m.stands c.packets.machine) (Comes c.packets.capture) (Comes c.next_packet.new.capture) before
-        (r.calls c.packets.regs) sent c.packets.taken c.args.asked run t u d c.packets-test.true
-        (subst (λ (x : Result (Option Packet) CaptureFault). Gives (Comes c.next_packet.new.capture) here.left x u) found (next took.now.left)) took)
+    (r.calls c.packets.regs) sent c.packets.taken c.args.asked run t u d c.packets-test.true
+    (subst (λ (x : Result (Option Packet) CaptureFault). Gives (Comes c.next_packet.new.capture) here.left x u) found (next took.now.left)) took)
     (c.next_packet.ensures.next here.left)
     (c.packets.invariant.run before sent run at)
 
@@ -79,11 +79,11 @@ returns-in-Err-clause-run g c = let r = g.R.RegFile in let f = g.F.Files in let 
     let here = passed m.rules run c.packets.taken in
     where_tape (f.slots c.packets.files).capture.cursor (f.slots c.next_packet.new.files).capture.cursor (r.contents c.packets.regs)
     (λ t u d next took. subst (λ (x : Halt). Halts m.rules (m.stands c.packets.machine) before (r.calls c.packets.regs) sent x run (Take c.args.asked) u.at d) (sym c.halt_of.ensures)
-        (stopped_by m.rules (m.stands c.packets.machine) (Comes c.packets.capture) (Comes c.next_packet.new.capture) before
-        (r.calls c.packets.regs) sent c.packets.taken c.args.asked run c.in-Err.fault t u d c.packets-test.true next.0
-        (subst (λ (x : Result (Option Packet) CaptureFault). Gives (Comes c.next_packet.new.capture) here.left x u) c.in-Err.is (next.1 took.now.left)) took))
+    (stopped_by m.rules (m.stands c.packets.machine) (Comes c.packets.capture) (Comes c.next_packet.new.capture) before
+    (r.calls c.packets.regs) sent c.packets.taken c.args.asked run c.in-Err.fault t u d c.packets-test.true next.0
+    (subst (λ (x : Result (Option Packet) CaptureFault). Gives (Comes c.next_packet.new.capture) here.left x u) c.in-Err.is (next.1 took.now.left)) took))
     (told_both MovesOn (λ t u. Comes c.packets.capture here.left t → Gives (Comes c.next_packet.new.capture) here.left c.next_packet.result u)
-        (f.slots c.packets.files).capture.cursor (f.slots c.next_packet.new.files).capture.cursor c.next_packet.ensures.cursor (c.next_packet.ensures.next here.left))
+    (f.slots c.packets.files).capture.cursor (f.slots c.next_packet.new.files).capture.cursor c.next_packet.ensures.cursor (c.next_packet.ensures.next here.left))
     (c.packets.invariant.run before sent run at)
 
 pub returns-clause-run : goal.returns-clause-run

@@ -21,7 +21,7 @@ returns-in-Err-Fault g c = let f = g.F.Files in
     let directory = directory_then d0 d1 d2 c.in_default.ensures.directory c.begin.ensures.directory in
     let others = others_then 2 s0 s1 s2 c.in_default.ensures.others c.begin.ensures.others in
     let there = attached_there c.args.names.capture.now d1 d2 c.in_default.field-0
-        (f.strays c.args.files.now) (f.strays c.attach.new.self) c.begin.ensures.directory c.in_default.ensures.strays in
+    (f.strays c.args.files.now) (f.strays c.attach.new.self) c.begin.ensures.directory c.in_default.ensures.strays in
     rw c.header_refusal.ensures (record {
       later = search rules;
       cause = header_cause c.in-Err-Fault.fault (f.faults c.args.files.now) (f.faults c.attach.new.self) (f.faults c.begin.new.files) (f.last c.attach.new.self) (f.last c.begin.new.files)

@@ -10,8 +10,11 @@ pub returns-in_err-capture-clause-refused : goal.returns-in_err-capture-clause-r
 returns-in_err-capture-clause-refused g c = let f = g.F.Files in
     let p = err_from_is_err_and c.from_residual-in_err-capture.result c.from_residual-in_err-capture.ensures.1 in
     rw (p.1, p.2) (c.in_err-capture.ensures.refused (record {
-      profile = (c.in_ok-profile.profile, profile_later c.args.names.profile.now (f.directory c.profile_of.new.files) (f.directory c.commands_of.new.files)
-          (f.slots c.profile_of.new.files) (f.slots c.commands_of.new.files) c.in_ok-profile.profile c.commands_of.ensures.directory c.commands_of.ensures.others.profile c.in_ok-profile.ensures.gives);
+      profile = (
+        c.in_ok-profile.profile,
+        profile_later c.args.names.profile.now (f.directory c.profile_of.new.files) (f.directory c.commands_of.new.files)
+            (f.slots c.profile_of.new.files) (f.slots c.commands_of.new.files) c.in_ok-profile.profile c.commands_of.ensures.directory c.commands_of.ensures.others.profile c.in_ok-profile.ensures.gives,
+      );
       commands = c.in_ok-commands.commands.items;
       script_text = c.in_ok-commands.ensures.gives;
     }))

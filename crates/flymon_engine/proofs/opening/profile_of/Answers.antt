@@ -12,7 +12,8 @@ returns-in-Ok-read_profile-clause-gives g c = let f = g.F.Files in
 
 pub returns-in-Err-Fault-clause-refused : goal.returns-in-Err-Fault-clause-refused
 returns-in-Err-Fault-clause-refused g c = let f = g.F.Files in
-    let other : is_standard c.args.names.profile.now ≡ false = search rules in
-    (other,
-    profile_told (Err c.in-Err-Fault.fault) c.args.names.profile.now c.in-Ok.text.items (f.directory c.bytes_of.new.files) (f.slots c.bytes_of.new.files).profile
-    c.in-Ok.ensures.text (rw (c.deref.ensures.value, c.in-Err-Fault.field-0-is) at c.in-Err-Fault.ensures.answer))
+    let other : is_standard c.args.names.profile.now ≡ false = search rules in (
+      other,
+      profile_told (Err c.in-Err-Fault.fault) c.args.names.profile.now c.in-Ok.text.items (f.directory c.bytes_of.new.files) (f.slots c.bytes_of.new.files).profile
+          c.in-Ok.ensures.text (rw (c.deref.ensures.value, c.in-Err-Fault.field-0-is) at c.in-Err-Fault.ensures.answer),
+    )

@@ -15,38 +15,60 @@ use Rattle.flymon_engine.proofs.top.replay.Goals as goal
 
 pub returns-clause-promises : goal.returns-clause-promises
 returns-clause-promises g c = let r = g.R.RegFile in let f = g.F.Files in let m = g.M.Machine in let o = g.O.Sink in
-    let before : Seen = record { files = f.faults c.args.files.now; last = f.last c.args.files.now; strays = f.strays c.args.files.now; directory = f.directory c.args.files.now; slots = f.slots c.args.files.now;
-        regs = r.faults c.args.regs.now; dims = r.dims c.args.regs.now; cells = r.contents c.args.regs.now; calls = r.calls c.args.regs.now; out = o.faults c.args.out.now; sent = o.sent c.args.out.now } in
+    let before : Seen = record {
+      files = f.faults c.args.files.now;
+      last = f.last c.args.files.now;
+      strays = f.strays c.args.files.now;
+      directory = f.directory c.args.files.now;
+      slots = f.slots c.args.files.now;
+      regs = r.faults c.args.regs.now;
+      dims = r.dims c.args.regs.now;
+      cells = r.contents c.args.regs.now;
+      calls = r.calls c.args.regs.now;
+      out = o.faults c.args.out.now;
+      sent = o.sent c.args.out.now;
+    } in
     let files = c.carry_all-carried.new.files in let regs = c.finish.new.regs in let out = c.carry_all-carried.new.out in
-    let after : Seen = record { files = f.faults files; last = f.last files; strays = f.strays files; directory = f.directory files; slots = f.slots files;
-        regs = r.faults regs; dims = r.dims regs; cells = r.contents regs; calls = r.calls regs; out = o.faults out; sent = o.sent out } in
+    let after : Seen = record {
+      files = f.faults files;
+      last = f.last files;
+      strays = f.strays files;
+      directory = f.directory files;
+      slots = f.slots files;
+      regs = r.faults regs;
+      dims = r.dims regs;
+      cells = r.contents regs;
+      calls = r.calls regs;
+      out = o.faults out;
+      sent = o.sent out;
+    } in
     let names = c.args.names in let opened = c.in-Ok.opened in
     let cause : (halt : Halt) → c.carry_all-carried.result ≡ Err halt → HasCause (f.faults c.args.files.now) (f.faults files) (f.last files) (r.faults c.args.regs.now) (r.faults regs) (o.faults c.args.out.now) (o.faults out) halt =
-        λ halt e. cause_of_run halt (f.faults c.args.files.now) (f.faults c.open_files.new.files) (f.faults files) (f.last files) (r.faults c.args.regs.now) (r.faults c.start.new.regs) (r.faults c.carry_all-carried.new.regs) (r.faults regs)
-        (o.faults c.args.out.now) (o.faults out) c.open_files.ensures.later c.start.ensures.later c.finish.ensures.faults
-        (err_holds (HasCause (f.faults c.open_files.new.files) (f.faults files) (f.last files) (r.faults c.start.new.regs) (r.faults c.carry_all-carried.new.regs) (o.faults c.args.out.now) (o.faults out))
-        c.carry_all-carried.result halt e c.carry_all-carried.ensures.cause) in
+    λ halt e. cause_of_run halt (f.faults c.args.files.now) (f.faults c.open_files.new.files) (f.faults files) (f.last files) (r.faults c.args.regs.now) (r.faults c.start.new.regs) (r.faults c.carry_all-carried.new.regs) (r.faults regs)
+    (o.faults c.args.out.now) (o.faults out) c.open_files.ensures.later c.start.ensures.later c.finish.ensures.faults
+    (err_holds (HasCause (f.faults c.open_files.new.files) (f.faults files) (f.last files) (r.faults c.start.new.regs) (r.faults c.carry_all-carried.new.regs) (o.faults c.args.out.now) (o.faults out))
+    c.carry_all-carried.result halt e c.carry_all-carried.ensures.cause) in
     let attached : (f.slots files).capture.attached ≡ (f.slots c.open_files.new.files).capture.attached = c.carry_all-carried.ensures.attached ∙ sym c.in-Ok.ensures.attached in
     let opens : Opens names.profile.now names.script.now names.capture.now (f.directory files) (f.slots files) opened.profile c.deref.result.now =
-        subst (λ (cs : List Command). Opens names.profile.now names.script.now names.capture.now (f.directory files) (f.slots files) opened.profile cs) (sym c.deref.ensures.value)
-        (opens_later names.profile.now names.script.now names.capture.now (f.directory c.open_files.new.files) (f.directory files) (f.slots c.open_files.new.files) (f.slots files)
-        opened.profile opened.commands.items c.carry_all-carried.ensures.directory c.carry_all-carried.ensures.others
-        (record { attached = attached; cursor = c.carry_all-carried.ensures.cursor }) c.in-Ok.ensures.opens) in
+    subst (λ (cs : List Command). Opens names.profile.now names.script.now names.capture.now (f.directory files) (f.slots files) opened.profile cs) (sym c.deref.ensures.value)
+    (opens_later names.profile.now names.script.now names.capture.now (f.directory c.open_files.new.files) (f.directory files) (f.slots c.open_files.new.files) (f.slots files)
+    opened.profile opened.commands.items c.carry_all-carried.ensures.directory c.carry_all-carried.ensures.others
+    (record { attached = attached; cursor = c.carry_all-carried.ensures.cursor }) c.in-Ok.ensures.opens) in
     subst (λ (x : Result (Unit {0}) Stop). Promises m.rules m.lays (Replay names.profile.now names.script.now names.capture.now) x before after) (sym c.ending.ensures)
-          (promises_carried m.rules m.lays names.profile.now names.script.now names.capture.now before after c.carry_all-carried.result cause (record {
-            setup = opened.profile;
-            commands = c.deref.result.now;
-            opened = opens;
-            attached = c.carry_all-carried.ensures.attached;
-            shaped = c.finish.ensures.dims ∙ (c.carry_all-carried.ensures.dims ∙ c.in-Ok-start.ensures.dims);
-            strays = strays_later (f.directory c.open_files.new.files) (f.directory files) (f.strays c.args.files.now) (f.strays c.open_files.new.files) (f.strays files)
-                c.carry_all-carried.ensures.directory c.in-Ok.ensures.strays c.carry_all-carried.ensures.strays;
-            carried = carried_on m.rules (m.stands c.in-Ok-start.machine) (m.stands c.carry_all-carried.new.machine) m.lays opened.profile opened.capture before after c.carry_all-carried.result c.deref.result.now
-                (f.slots c.open_files.new.files).capture.cursor (f.slots files).capture.cursor (r.contents c.start.new.regs) (r.contents c.carry_all-carried.new.regs) (r.contents regs)
-                (r.calls c.start.new.regs) (r.calls c.carry_all-carried.new.regs)
-                c.in-Ok.ensures.begun c.in-Ok-start.ensures.cells c.carry_all-carried.ensures.cursor c.carry_all-carried.ensures.cells c.finish.ensures.told
-                c.carry_all-carried.ensures.run c.finish.ensures.moves c.in-Ok-start.ensures.calls;
-          }))
+    (promises_carried m.rules m.lays names.profile.now names.script.now names.capture.now before after c.carry_all-carried.result cause (record {
+      setup = opened.profile;
+      commands = c.deref.result.now;
+      opened = opens;
+      attached = c.carry_all-carried.ensures.attached;
+      shaped = c.finish.ensures.dims ∙ (c.carry_all-carried.ensures.dims ∙ c.in-Ok-start.ensures.dims);
+      strays = strays_later (f.directory c.open_files.new.files) (f.directory files) (f.strays c.args.files.now) (f.strays c.open_files.new.files) (f.strays files)
+          c.carry_all-carried.ensures.directory c.in-Ok.ensures.strays c.carry_all-carried.ensures.strays;
+      carried = carried_on m.rules (m.stands c.in-Ok-start.machine) (m.stands c.carry_all-carried.new.machine) m.lays opened.profile opened.capture before after c.carry_all-carried.result c.deref.result.now
+          (f.slots c.open_files.new.files).capture.cursor (f.slots files).capture.cursor (r.contents c.start.new.regs) (r.contents c.carry_all-carried.new.regs) (r.contents regs)
+          (r.calls c.start.new.regs) (r.calls c.carry_all-carried.new.regs)
+          c.in-Ok.ensures.begun c.in-Ok-start.ensures.cells c.carry_all-carried.ensures.cursor c.carry_all-carried.ensures.cells c.finish.ensures.told
+          c.carry_all-carried.ensures.run c.finish.ensures.moves c.in-Ok-start.ensures.calls;
+    }))
 
 pub returns-clause-standard : goal.returns-clause-standard
 returns-clause-standard g c = let f = g.F.Files in

@@ -90,8 +90,8 @@ invariant_of-self c =
     let some : is_none o.frozen ≡ false = subst (λ (x : Outline). is_none x.frozen ≡ false) (same_task n os at first o place c.index.ensures c.remove.ensures.value) asked in
     let new_is : c.new.result ≡ new_outline o.task (there c.thaw_rows-rows.result.0) = c.new.ensures ∙ ap (λ task. new_outline task (there c.thaw_rows-rows.result.0)) c.apart-task.ensures.task in
     let done = released_switch os st cap n at o slots c.thaw_rows-rows.result.0 c.thaw_rows-rows.result.1 c.give_frozen_all.new.self c.put_at.new.records.items (vec_capacity c.put_at.new.records)
-      going some c.thaw_rows-rows.ensures.rows c.thaw_rows-rows.ensures.frozen c.give_frozen_all.ensures
-      (c.put_at.ensures.items ∙ ap₂ (λ xs y. insert xs at y) c.remove.ensures.items new_is) (c.put_at.ensures.capacity ∙ c.remove.ensures.capacity) in
+    going some c.thaw_rows-rows.ensures.rows c.thaw_rows-rows.ensures.frozen c.give_frozen_all.ensures
+    (c.put_at.ensures.items ∙ ap₂ (λ xs y. insert xs at y) c.remove.ensures.items new_is) (c.put_at.ensures.capacity ∙ c.remove.ensures.capacity) in
     done.0
 
 pub returns : goal.returns
@@ -112,13 +112,13 @@ returns c =
     let some : is_none o.frozen ≡ false = subst (λ (x : Outline). is_none x.frozen ≡ false) (same_task n os at first o place c.index.ensures c.remove.ensures.value) asked in
     let new_is : c.new.result ≡ new_outline o.task (there c.thaw_rows-rows.result.0) = c.new.ensures ∙ ap (λ task. new_outline task (there c.thaw_rows-rows.result.0)) c.apart-task.ensures.task in
     let done = released_switch os st cap n at o slots c.thaw_rows-rows.result.0 c.thaw_rows-rows.result.1 c.give_frozen_all.new.self c.put_at.new.records.items (vec_capacity c.put_at.new.records)
-      going some c.thaw_rows-rows.ensures.rows c.thaw_rows-rows.ensures.frozen c.give_frozen_all.ensures
-      (c.put_at.ensures.items ∙ ap₂ (λ xs y. insert xs at y) c.remove.ensures.items new_is) (c.put_at.ensures.capacity ∙ c.remove.ensures.capacity) in
+    going some c.thaw_rows-rows.ensures.rows c.thaw_rows-rows.ensures.frozen c.give_frozen_all.ensures
+    (c.put_at.ensures.items ∙ ap₂ (λ xs y. insert xs at y) c.remove.ensures.items new_is) (c.put_at.ensures.capacity ∙ c.remove.ensures.capacity) in
     let shown : judged v.geometry v.outlines (Release n) ≡ judged st.geometry os (Release n) = ap (λ (s : SwitchState). judged s.geometry s.outlines (Release n)) (sym c.self.view_is) in
     let last : State = c.give_frozen_all.new.self in
     let now : State → SwitchState = λ s. record { geometry = s.geometry; hash_key = s.hash_key; outlines = c.put_at.new.records.items } in
     let state_is : now last ≡ record { geometry = st.geometry; hash_key = st.hash_key; outlines = edit_at at thawed_outline os } =
-      ap now c.give_frozen_all.ensures
-      ∙ ap (λ ys. (let s : SwitchState = record { geometry = st.geometry; hash_key = st.hash_key; outlines = ys } in s)) done.1 in
+    ap now c.give_frozen_all.ensures
+    ∙ ap (λ ys. (let s : SwitchState = record { geometry = st.geometry; hash_key = st.hash_key; outlines = ys } in s)) done.1 in
     subst (λ r. Answers {T = Unit {0}} release_cause r (Ok tt) v (now last)) (sym (shown ∙ judged_release st os n at o place c.remove.ensures.value some))
-      (state_is ∙ ap (λ (s : SwitchState). record s { outlines = edit_at at thawed_outline s.outlines }) c.self.view_is)
+    (state_is ∙ ap (λ (s : SwitchState). record s { outlines = edit_at at thawed_outline s.outlines }) c.self.view_is)

@@ -116,7 +116,7 @@ invariant_of-self c =
     let slots : List (Option Row) = c.apart-rows.result.2 in
     let going : Going os st cap n at o slots = record { kept = kept; place = place; here = c.remove.ensures.value; rows = c.apart-rows.ensures.rows } in
     removed_switch os st cap n at o slots c.clear_all-frozen.result c.clear_all-frozen.new.self c.give_frozen_all.new.self c.remove.new.self.items (vec_capacity c.remove.new.self) going
-      c.clear_all-frozen.ensures.frozen c.clear_all-frozen.ensures.state c.give_frozen_all.ensures c.remove.ensures.items c.remove.ensures.capacity
+    c.clear_all-frozen.ensures.frozen c.clear_all-frozen.ensures.state c.give_frozen_all.ensures c.remove.ensures.items c.remove.ensures.capacity
 
 pub returns : goal.returns
 returns c =
@@ -135,7 +135,7 @@ returns c =
     let last : State = c.give_frozen_all.new.self in
     let now : State → SwitchState = λ s. record { geometry = s.geometry; hash_key = s.hash_key; outlines = c.remove.new.self.items } in
     let state_is : now last ≡ record { geometry = st.geometry; hash_key = st.hash_key; outlines = remove os at } =
-      ap now c.give_frozen_all.ensures ∙ ap now c.clear_all-frozen.ensures.state
-      ∙ ap (λ ys. (let s : SwitchState = record { geometry = st.geometry; hash_key = st.hash_key; outlines = ys } in s)) c.remove.ensures.items in
+    ap now c.give_frozen_all.ensures ∙ ap now c.clear_all-frozen.ensures.state
+    ∙ ap (λ ys. (let s : SwitchState = record { geometry = st.geometry; hash_key = st.hash_key; outlines = ys } in s)) c.remove.ensures.items in
     subst (λ r. Answers {T = Unit {0}} remove_cause r (Ok tt) v (now last)) (sym (shown ∙ judged_removal os st cap n at o slots going))
-      (state_is ∙ ap (λ (s : SwitchState). record s { outlines = remove s.outlines at }) c.self.view_is)
+    (state_is ∙ ap (λ (s : SwitchState). record s { outlines = remove s.outlines at }) c.self.view_is)

@@ -71,7 +71,7 @@ returns-in_default-size_bits-clause-answer g c =
     let looks : Looks os st cap n size at first = record { kept = kept; place = place; here = c.index-kept.ensures; free = asked } in
     let sh : c.shape-shape.result.now ≡ st.geometry = c.shape-shape.ensures.value ∙ ap (λ (r : Rules). r.geometry) c.pipe.ensures in
     let told : bits_for st.geometry first.task.kind size ≡ c.size_bits.result =
-      ap (λ g. bits_for g first.task.kind size) (sym sh) ∙ ap (λ k. bits_for c.shape-shape.result.now k size) (sym (c.kind.ensures ∙ ap (λ (t : Sketch). t.kind) c.task.ensures)) ∙ sym c.size_bits.ensures.bits in
+    ap (λ g. bits_for g first.task.kind size) (sym sh) ∙ ap (λ k. bits_for c.shape-shape.result.now k size) (sym (c.kind.ensures ∙ ap (λ (t : Sketch). t.kind) c.task.ensures)) ∙ sym c.size_bits.ensures.bits in
     let shown : judged v.geometry v.outlines (Resize n size) ≡ judged st.geometry os (Resize n size) = ap (λ (s : SwitchState). judged s.geometry s.outlines (Resize n size)) (sym c.self.view_is) in
     subst (λ r. Answers {T = Unit {0}} resize_cause r (Err (resizing.BadMemory size)) v v) (sym (shown ∙ bad_resize os st cap n size at first looks (told ∙ c.in_default-size_bits.is))) (refl, refl)
 
@@ -119,7 +119,7 @@ returns-in-Err-clause-answer g c =
     let looks : Looks os st cap n size at first = record { kept = kept; place = place; here = c.index-kept.ensures; free = asked } in
     let sh : c.shape-shape.result.now ≡ st.geometry = c.shape-shape.ensures.value ∙ ap (λ (r : Rules). r.geometry) c.pipe.ensures in
     let told : bits_for st.geometry first.task.kind size ≡ c.size_bits.result =
-      ap (λ g. bits_for g first.task.kind size) (sym sh) ∙ ap (λ k. bits_for c.shape-shape.result.now k size) (sym (c.kind.ensures ∙ ap (λ (t : Sketch). t.kind) c.task.ensures)) ∙ sym c.size_bits.ensures.bits in
+    ap (λ g. bits_for g first.task.kind size) (sym sh) ∙ ap (λ k. bits_for c.shape-shape.result.now k size) (sym (c.kind.ensures ∙ ap (λ (t : Sketch). t.kind) c.task.ensures)) ∙ sym c.size_bits.ensures.bits in
     let bits : ℕ = c.in-Some-size_bits.bits in
     let bits_are : bits_for st.geometry first.task.kind size ≡ Some bits = told ∙ c.in-Some-size_bits.is in
     let shown : judged v.geometry v.outlines (Resize n size) ≡ judged st.geometry os (Resize n size) = ap (λ (s : SwitchState). judged s.geometry s.outlines (Resize n size)) (sym c.self.view_is) in
@@ -142,7 +142,7 @@ fresh-requires-clause-can g c =
     let looks : Looks os st cap n size at first = record { kept = kept; place = place; here = c.index-kept.ensures; free = asked } in
     let sh : c.shape-shape.result.now ≡ st.geometry = c.shape-shape.ensures.value ∙ ap (λ (r : Rules). r.geometry) c.pipe.ensures in
     let told : bits_for st.geometry first.task.kind size ≡ c.size_bits.result =
-      ap (λ g. bits_for g first.task.kind size) (sym sh) ∙ ap (λ k. bits_for c.shape-shape.result.now k size) (sym (c.kind.ensures ∙ ap (λ (t : Sketch). t.kind) c.task.ensures)) ∙ sym c.size_bits.ensures.bits in
+    ap (λ g. bits_for g first.task.kind size) (sym sh) ∙ ap (λ k. bits_for c.shape-shape.result.now k size) (sym (c.kind.ensures ∙ ap (λ (t : Sketch). t.kind) c.task.ensures)) ∙ sym c.size_bits.ensures.bits in
     let bits : ℕ = c.in-Some-size_bits.bits in
     let bits_are : bits_for st.geometry first.task.kind size ≡ Some bits = told ∙ c.in-Some-size_bits.is in
     let o : Outline = c.remove.result in
@@ -155,7 +155,8 @@ fresh-requires-clause-can g c =
       looks = looks_too;
       bits_are = subst (λ (x : Outline). bits_for st.geometry x.task.kind size ≡ Some bits) same bits_are;
       rows = rows;
-      room = ap (first_full st.pools bits) (sym arrays) ∙ c.in-Ok.ensures } in
+      room = ap (first_full st.pools bits) (sym arrays) ∙ c.in-Ok.ensures;
+    } in
     let one : Resized os st n size at o bits slots = is_resized os st cap n size at o bits slots sizes in
     subst (CanTake bits st.pools) (sym c.arrays_in.ensures) one.all.can
 
@@ -175,7 +176,7 @@ fresh-requires-clause-file g c =
     let looks : Looks os st cap n size at first = record { kept = kept; place = place; here = c.index-kept.ensures; free = asked } in
     let sh : c.shape-shape.result.now ≡ st.geometry = c.shape-shape.ensures.value ∙ ap (λ (r : Rules). r.geometry) c.pipe.ensures in
     let told : bits_for st.geometry first.task.kind size ≡ c.size_bits.result =
-      ap (λ g. bits_for g first.task.kind size) (sym sh) ∙ ap (λ k. bits_for c.shape-shape.result.now k size) (sym (c.kind.ensures ∙ ap (λ (t : Sketch). t.kind) c.task.ensures)) ∙ sym c.size_bits.ensures.bits in
+    ap (λ g. bits_for g first.task.kind size) (sym sh) ∙ ap (λ k. bits_for c.shape-shape.result.now k size) (sym (c.kind.ensures ∙ ap (λ (t : Sketch). t.kind) c.task.ensures)) ∙ sym c.size_bits.ensures.bits in
     let bits : ℕ = c.in-Some-size_bits.bits in
     let bits_are : bits_for st.geometry first.task.kind size ≡ Some bits = told ∙ c.in-Some-size_bits.is in
     let o : Outline = c.remove.result in
@@ -188,10 +189,11 @@ fresh-requires-clause-file g c =
       looks = looks_too;
       bits_are = subst (λ (x : Outline). bits_for st.geometry x.task.kind size ≡ Some bits) same bits_are;
       rows = rows;
-      room = ap (first_full st.pools bits) (sym arrays) ∙ c.in-Ok.ensures } in
+      room = ap (first_full st.pools bits) (sym arrays) ∙ c.in-Ok.ensures;
+    } in
     let one : Resized os st n size at o bits slots = is_resized os st cap n size at o bits slots sizes in
     subst (λ xs. AreInFile (g.R.RegFile.dims c.args.regs.now) (fresh_leases bits st.pools xs)) (sym c.arrays_in.ensures)
-      (one.all.file (g.R.RegFile.dims c.args.regs.now) (subst (λ (s : SwitchState). IsShaped s.geometry (g.R.RegFile.dims c.args.regs.now)) (sym c.self.view_is) c.requires))
+    (one.all.file (g.R.RegFile.dims c.args.regs.now) (subst (λ (s : SwitchState). IsShaped s.geometry (g.R.RegFile.dims c.args.regs.now)) (sym c.self.view_is) c.requires))
 
 pub move_all-rows-requires-clause-moves : goal.move_all-rows-requires-clause-moves
 move_all-rows-requires-clause-moves g c =
@@ -209,7 +211,7 @@ move_all-rows-requires-clause-moves g c =
     let looks : Looks os st cap n size at first = record { kept = kept; place = place; here = c.index-kept.ensures; free = asked } in
     let sh : c.shape-shape.result.now ≡ st.geometry = c.shape-shape.ensures.value ∙ ap (λ (r : Rules). r.geometry) c.pipe.ensures in
     let told : bits_for st.geometry first.task.kind size ≡ c.size_bits.result =
-      ap (λ g. bits_for g first.task.kind size) (sym sh) ∙ ap (λ k. bits_for c.shape-shape.result.now k size) (sym (c.kind.ensures ∙ ap (λ (t : Sketch). t.kind) c.task.ensures)) ∙ sym c.size_bits.ensures.bits in
+    ap (λ g. bits_for g first.task.kind size) (sym sh) ∙ ap (λ k. bits_for c.shape-shape.result.now k size) (sym (c.kind.ensures ∙ ap (λ (t : Sketch). t.kind) c.task.ensures)) ∙ sym c.size_bits.ensures.bits in
     let bits : ℕ = c.in-Some-size_bits.bits in
     let bits_are : bits_for st.geometry first.task.kind size ≡ Some bits = told ∙ c.in-Some-size_bits.is in
     let o : Outline = c.remove.result in
@@ -222,11 +224,12 @@ move_all-rows-requires-clause-moves g c =
       looks = looks_too;
       bits_are = subst (λ (x : Outline). bits_for st.geometry x.task.kind size ≡ Some bits) same bits_are;
       rows = rows;
-      room = ap (first_full st.pools bits) (sym arrays) ∙ c.in-Ok.ensures } in
+      room = ap (first_full st.pools bits) (sym arrays) ∙ c.in-Ok.ensures;
+    } in
     let one : Resized os st n size at o bits slots = is_resized os st cap n size at o bits slots sizes in
     let sized_is : c.with_size-sized.result ≡ sized o.task size = c.with_size-sized.ensures.size ∙ ap (λ t. sized t size) c.apart-task.ensures.task in
     let asks : Moving c.fresh.new.self c.with_size-sized.result slots c.in-Ok-fresh.leases =
-      moving os st n size at o bits slots c.fresh.new.self c.with_size-sized.result c.arrays_in.result c.in-Ok-fresh.leases one sized_is c.arrays_in.ensures c.in-Ok-fresh.ensures.leases c.in-Ok-fresh.ensures.state in
+    moving os st n size at o bits slots c.fresh.new.self c.with_size-sized.result c.arrays_in.result c.in-Ok-fresh.leases one sized_is c.arrays_in.ensures c.in-Ok-fresh.ensures.leases c.in-Ok-fresh.ensures.state in
     asks.moves
 
 pub move_all-rows-requires-clause-leave : goal.move_all-rows-requires-clause-leave
@@ -245,7 +248,7 @@ move_all-rows-requires-clause-leave g c =
     let looks : Looks os st cap n size at first = record { kept = kept; place = place; here = c.index-kept.ensures; free = asked } in
     let sh : c.shape-shape.result.now ≡ st.geometry = c.shape-shape.ensures.value ∙ ap (λ (r : Rules). r.geometry) c.pipe.ensures in
     let told : bits_for st.geometry first.task.kind size ≡ c.size_bits.result =
-      ap (λ g. bits_for g first.task.kind size) (sym sh) ∙ ap (λ k. bits_for c.shape-shape.result.now k size) (sym (c.kind.ensures ∙ ap (λ (t : Sketch). t.kind) c.task.ensures)) ∙ sym c.size_bits.ensures.bits in
+    ap (λ g. bits_for g first.task.kind size) (sym sh) ∙ ap (λ k. bits_for c.shape-shape.result.now k size) (sym (c.kind.ensures ∙ ap (λ (t : Sketch). t.kind) c.task.ensures)) ∙ sym c.size_bits.ensures.bits in
     let bits : ℕ = c.in-Some-size_bits.bits in
     let bits_are : bits_for st.geometry first.task.kind size ≡ Some bits = told ∙ c.in-Some-size_bits.is in
     let o : Outline = c.remove.result in
@@ -258,11 +261,12 @@ move_all-rows-requires-clause-leave g c =
       looks = looks_too;
       bits_are = subst (λ (x : Outline). bits_for st.geometry x.task.kind size ≡ Some bits) same bits_are;
       rows = rows;
-      room = ap (first_full st.pools bits) (sym arrays) ∙ c.in-Ok.ensures } in
+      room = ap (first_full st.pools bits) (sym arrays) ∙ c.in-Ok.ensures;
+    } in
     let one : Resized os st n size at o bits slots = is_resized os st cap n size at o bits slots sizes in
     let sized_is : c.with_size-sized.result ≡ sized o.task size = c.with_size-sized.ensures.size ∙ ap (λ t. sized t size) c.apart-task.ensures.task in
     let asks : Moving c.fresh.new.self c.with_size-sized.result slots c.in-Ok-fresh.leases =
-      moving os st n size at o bits slots c.fresh.new.self c.with_size-sized.result c.arrays_in.result c.in-Ok-fresh.leases one sized_is c.arrays_in.ensures c.in-Ok-fresh.ensures.leases c.in-Ok-fresh.ensures.state in
+    moving os st n size at o bits slots c.fresh.new.self c.with_size-sized.result c.arrays_in.result c.in-Ok-fresh.leases one sized_is c.arrays_in.ensures c.in-Ok-fresh.ensures.leases c.in-Ok-fresh.ensures.state in
     asks.leave
 
 pub move_all-rows-requires-clause-entries : goal.move_all-rows-requires-clause-entries
@@ -281,7 +285,7 @@ move_all-rows-requires-clause-entries g c =
     let looks : Looks os st cap n size at first = record { kept = kept; place = place; here = c.index-kept.ensures; free = asked } in
     let sh : c.shape-shape.result.now ≡ st.geometry = c.shape-shape.ensures.value ∙ ap (λ (r : Rules). r.geometry) c.pipe.ensures in
     let told : bits_for st.geometry first.task.kind size ≡ c.size_bits.result =
-      ap (λ g. bits_for g first.task.kind size) (sym sh) ∙ ap (λ k. bits_for c.shape-shape.result.now k size) (sym (c.kind.ensures ∙ ap (λ (t : Sketch). t.kind) c.task.ensures)) ∙ sym c.size_bits.ensures.bits in
+    ap (λ g. bits_for g first.task.kind size) (sym sh) ∙ ap (λ k. bits_for c.shape-shape.result.now k size) (sym (c.kind.ensures ∙ ap (λ (t : Sketch). t.kind) c.task.ensures)) ∙ sym c.size_bits.ensures.bits in
     let bits : ℕ = c.in-Some-size_bits.bits in
     let bits_are : bits_for st.geometry first.task.kind size ≡ Some bits = told ∙ c.in-Some-size_bits.is in
     let o : Outline = c.remove.result in
@@ -294,11 +298,12 @@ move_all-rows-requires-clause-entries g c =
       looks = looks_too;
       bits_are = subst (λ (x : Outline). bits_for st.geometry x.task.kind size ≡ Some bits) same bits_are;
       rows = rows;
-      room = ap (first_full st.pools bits) (sym arrays) ∙ c.in-Ok.ensures } in
+      room = ap (first_full st.pools bits) (sym arrays) ∙ c.in-Ok.ensures;
+    } in
     let one : Resized os st n size at o bits slots = is_resized os st cap n size at o bits slots sizes in
     let sized_is : c.with_size-sized.result ≡ sized o.task size = c.with_size-sized.ensures.size ∙ ap (λ t. sized t size) c.apart-task.ensures.task in
     let asks : Moving c.fresh.new.self c.with_size-sized.result slots c.in-Ok-fresh.leases =
-      moving os st n size at o bits slots c.fresh.new.self c.with_size-sized.result c.arrays_in.result c.in-Ok-fresh.leases one sized_is c.arrays_in.ensures c.in-Ok-fresh.ensures.leases c.in-Ok-fresh.ensures.state in
+    moving os st n size at o bits slots c.fresh.new.self c.with_size-sized.result c.arrays_in.result c.in-Ok-fresh.leases one sized_is c.arrays_in.ensures c.in-Ok-fresh.ensures.leases c.in-Ok-fresh.ensures.state in
     asks.entries
 
 pub invariant_of-self-in-Ok-fresh : goal.invariant_of-self-in-Ok-fresh
@@ -317,7 +322,7 @@ invariant_of-self-in-Ok-fresh g c =
     let looks : Looks os st cap n size at first = record { kept = kept; place = place; here = c.index-kept.ensures; free = asked } in
     let sh : c.shape-shape.result.now ≡ st.geometry = c.shape-shape.ensures.value ∙ ap (λ (r : Rules). r.geometry) c.pipe.ensures in
     let told : bits_for st.geometry first.task.kind size ≡ c.size_bits.result =
-      ap (λ g. bits_for g first.task.kind size) (sym sh) ∙ ap (λ k. bits_for c.shape-shape.result.now k size) (sym (c.kind.ensures ∙ ap (λ (t : Sketch). t.kind) c.task.ensures)) ∙ sym c.size_bits.ensures.bits in
+    ap (λ g. bits_for g first.task.kind size) (sym sh) ∙ ap (λ k. bits_for c.shape-shape.result.now k size) (sym (c.kind.ensures ∙ ap (λ (t : Sketch). t.kind) c.task.ensures)) ∙ sym c.size_bits.ensures.bits in
     let bits : ℕ = c.in-Some-size_bits.bits in
     let bits_are : bits_for st.geometry first.task.kind size ≡ Some bits = told ∙ c.in-Some-size_bits.is in
     let o : Outline = c.remove.result in
@@ -330,15 +335,16 @@ invariant_of-self-in-Ok-fresh g c =
       looks = looks_too;
       bits_are = subst (λ (x : Outline). bits_for st.geometry x.task.kind size ≡ Some bits) same bits_are;
       rows = rows;
-      room = ap (first_full st.pools bits) (sym arrays) ∙ c.in-Ok.ensures } in
+      room = ap (first_full st.pools bits) (sym arrays) ∙ c.in-Ok.ensures;
+    } in
     let one : Resized os st n size at o bits slots = is_resized os st cap n size at o bits slots sizes in
     let sized_is : c.with_size-sized.result ≡ sized o.task size = c.with_size-sized.ensures.size ∙ ap (λ t. sized t size) c.apart-task.ensures.task in
     let new_is : c.new-in-Ok-fresh.result ≡ kept_as c.with_size-sized.result o.task.size (there c.move_all-rows.result) =
-      c.new-in-Ok-fresh.ensures ∙ ap (λ m. kept_as c.with_size-sized.result m (there c.move_all-rows.result)) (c.size.ensures ∙ ap (λ (t : Sketch). t.size) c.apart-task.ensures.task) in
+    c.new-in-Ok-fresh.ensures ∙ ap (λ m. kept_as c.with_size-sized.result m (there c.move_all-rows.result)) (c.size.ensures ∙ ap (λ (t : Sketch). t.size) c.apart-task.ensures.task) in
     let done = resized_switch os st cap n size at o bits slots c.move_all-rows.result c.with_size-sized.result c.arrays_in.result c.in-Ok-fresh.leases c.fresh.new.self c.move_all-rows.new.self
-      c.put_at-in-Ok-fresh.new.records.items (vec_capacity c.put_at-in-Ok-fresh.new.records) kept one sized_is c.arrays_in.ensures c.in-Ok-fresh.ensures.leases c.in-Ok-fresh.ensures.state
-      c.move_all-rows.ensures.rows c.move_all-rows.ensures.state
-      (c.put_at-in-Ok-fresh.ensures.items ∙ ap₂ (λ xs y. insert xs at y) c.remove.ensures.items new_is) (c.put_at-in-Ok-fresh.ensures.capacity ∙ c.remove.ensures.capacity) in
+    c.put_at-in-Ok-fresh.new.records.items (vec_capacity c.put_at-in-Ok-fresh.new.records) kept one sized_is c.arrays_in.ensures c.in-Ok-fresh.ensures.leases c.in-Ok-fresh.ensures.state
+    c.move_all-rows.ensures.rows c.move_all-rows.ensures.state
+    (c.put_at-in-Ok-fresh.ensures.items ∙ ap₂ (λ xs y. insert xs at y) c.remove.ensures.items new_is) (c.put_at-in-Ok-fresh.ensures.capacity ∙ c.remove.ensures.capacity) in
     done.0
 
 pub invariant_of-self : goal.invariant_of-self
@@ -357,7 +363,7 @@ invariant_of-self g c =
     let looks : Looks os st cap n size at first = record { kept = kept; place = place; here = c.index-kept.ensures; free = asked } in
     let sh : c.shape-shape.result.now ≡ st.geometry = c.shape-shape.ensures.value ∙ ap (λ (r : Rules). r.geometry) c.pipe.ensures in
     let told : bits_for st.geometry first.task.kind size ≡ c.size_bits.result =
-      ap (λ g. bits_for g first.task.kind size) (sym sh) ∙ ap (λ k. bits_for c.shape-shape.result.now k size) (sym (c.kind.ensures ∙ ap (λ (t : Sketch). t.kind) c.task.ensures)) ∙ sym c.size_bits.ensures.bits in
+    ap (λ g. bits_for g first.task.kind size) (sym sh) ∙ ap (λ k. bits_for c.shape-shape.result.now k size) (sym (c.kind.ensures ∙ ap (λ (t : Sketch). t.kind) c.task.ensures)) ∙ sym c.size_bits.ensures.bits in
     let bits : ℕ = c.in-Some-size_bits.bits in
     let bits_are : bits_for st.geometry first.task.kind size ≡ Some bits = told ∙ c.in-Some-size_bits.is in
     let o : Outline = c.remove.result in
@@ -370,14 +376,15 @@ invariant_of-self g c =
       looks = looks_too;
       bits_are = subst (λ (x : Outline). bits_for st.geometry x.task.kind size ≡ Some bits) same bits_are;
       rows = rows;
-      room = ap (first_full st.pools bits) (sym arrays) ∙ c.in-Ok.ensures } in
+      room = ap (first_full st.pools bits) (sym arrays) ∙ c.in-Ok.ensures;
+    } in
     let one : Resized os st n size at o bits slots = is_resized os st cap n size at o bits slots sizes in
     let y_is : c.new.result ≡ o =
-      c.new.ensures ∙ ap (λ t. (let x : Outline = record { task = t; frozen = c.apart-task.result.1; rows = there slots } in x)) c.apart-task.ensures.task
-      ∙ ap (λ f. (let x : Outline = record { task = o.task; frozen = f; rows = there slots } in x)) c.apart-task.ensures.frozen
-      ∙ ap (λ rs. (let x : Outline = record { task = o.task; frozen = o.frozen; rows = rs } in x)) rows in
+    c.new.ensures ∙ ap (λ t. (let x : Outline = record { task = t; frozen = c.apart-task.result.1; rows = there slots } in x)) c.apart-task.ensures.task
+    ∙ ap (λ f. (let x : Outline = record { task = o.task; frozen = f; rows = there slots } in x)) c.apart-task.ensures.frozen
+    ∙ ap (λ rs. (let x : Outline = record { task = o.task; frozen = o.frozen; rows = rs } in x)) rows in
     let done = kept_switch os st cap n at o c.new.result c.fresh.new.self c.put_at.new.records.items (vec_capacity c.put_at.new.records) kept place c.remove.ensures.value y_is c.in-Err-fresh.ensures.refused
-      (c.put_at.ensures.items ∙ ap (λ xs. insert xs at c.new.result) c.remove.ensures.items) (c.put_at.ensures.capacity ∙ c.remove.ensures.capacity) in
+    (c.put_at.ensures.items ∙ ap (λ xs. insert xs at c.new.result) c.remove.ensures.items) (c.put_at.ensures.capacity ∙ c.remove.ensures.capacity) in
     done.0
 
 pub returns-in-Err-fresh-clause-answer : goal.returns-in-Err-fresh-clause-answer
@@ -396,7 +403,7 @@ returns-in-Err-fresh-clause-answer g c =
     let looks : Looks os st cap n size at first = record { kept = kept; place = place; here = c.index-kept.ensures; free = asked } in
     let sh : c.shape-shape.result.now ≡ st.geometry = c.shape-shape.ensures.value ∙ ap (λ (r : Rules). r.geometry) c.pipe.ensures in
     let told : bits_for st.geometry first.task.kind size ≡ c.size_bits.result =
-      ap (λ g. bits_for g first.task.kind size) (sym sh) ∙ ap (λ k. bits_for c.shape-shape.result.now k size) (sym (c.kind.ensures ∙ ap (λ (t : Sketch). t.kind) c.task.ensures)) ∙ sym c.size_bits.ensures.bits in
+    ap (λ g. bits_for g first.task.kind size) (sym sh) ∙ ap (λ k. bits_for c.shape-shape.result.now k size) (sym (c.kind.ensures ∙ ap (λ (t : Sketch). t.kind) c.task.ensures)) ∙ sym c.size_bits.ensures.bits in
     let bits : ℕ = c.in-Some-size_bits.bits in
     let bits_are : bits_for st.geometry first.task.kind size ≡ Some bits = told ∙ c.in-Some-size_bits.is in
     let o : Outline = c.remove.result in
@@ -409,19 +416,20 @@ returns-in-Err-fresh-clause-answer g c =
       looks = looks_too;
       bits_are = subst (λ (x : Outline). bits_for st.geometry x.task.kind size ≡ Some bits) same bits_are;
       rows = rows;
-      room = ap (first_full st.pools bits) (sym arrays) ∙ c.in-Ok.ensures } in
+      room = ap (first_full st.pools bits) (sym arrays) ∙ c.in-Ok.ensures;
+    } in
     let one : Resized os st n size at o bits slots = is_resized os st cap n size at o bits slots sizes in
     let y_is : c.new.result ≡ o =
-      c.new.ensures ∙ ap (λ t. (let x : Outline = record { task = t; frozen = c.apart-task.result.1; rows = there slots } in x)) c.apart-task.ensures.task
-      ∙ ap (λ f. (let x : Outline = record { task = o.task; frozen = f; rows = there slots } in x)) c.apart-task.ensures.frozen
-      ∙ ap (λ rs. (let x : Outline = record { task = o.task; frozen = o.frozen; rows = rs } in x)) rows in
+    c.new.ensures ∙ ap (λ t. (let x : Outline = record { task = t; frozen = c.apart-task.result.1; rows = there slots } in x)) c.apart-task.ensures.task
+    ∙ ap (λ f. (let x : Outline = record { task = o.task; frozen = f; rows = there slots } in x)) c.apart-task.ensures.frozen
+    ∙ ap (λ rs. (let x : Outline = record { task = o.task; frozen = o.frozen; rows = rs } in x)) rows in
     let done = kept_switch os st cap n at o c.new.result c.fresh.new.self c.put_at.new.records.items (vec_capacity c.put_at.new.records) kept place c.remove.ensures.value y_is c.in-Err-fresh.ensures.refused
-      (c.put_at.ensures.items ∙ ap (λ xs. insert xs at c.new.result) c.remove.ensures.items) (c.put_at.ensures.capacity ∙ c.remove.ensures.capacity) in
+    (c.put_at.ensures.items ∙ ap (λ xs. insert xs at c.new.result) c.remove.ensures.items) (c.put_at.ensures.capacity ∙ c.remove.ensures.capacity) in
     let shown : judged v.geometry v.outlines (Resize n size) ≡ judged st.geometry os (Resize n size) = ap (λ (s : SwitchState). judged s.geometry s.outlines (Resize n size)) (sym c.self.view_is) in
     let told_is : judged v.geometry v.outlines (Resize n size) ≡ Ok (Move at (sized o.task size) one.news) = shown ∙ one.judged_is in
     let now : State → List Outline → SwitchState = λ s ys. record { geometry = s.geometry; hash_key = s.hash_key; outlines = ys } in
     subst (λ r. Answers {T = Unit {0}} resize_cause r (Err resizing.Device) v (now c.fresh.new.self c.put_at.new.records.items)) (sym told_is)
-      (refl, ap₂ now c.in-Err-fresh.ensures.refused done.1 ∙ c.self.view_is)
+    (refl, ap₂ now c.in-Err-fresh.ensures.refused done.1 ∙ c.self.view_is)
 
 pub returns-in-Err-fresh-clause-contents : goal.returns-in-Err-fresh-clause-contents
 returns-in-Err-fresh-clause-contents g c =
@@ -439,7 +447,7 @@ returns-in-Err-fresh-clause-contents g c =
     let looks : Looks os st cap n size at first = record { kept = kept; place = place; here = c.index-kept.ensures; free = asked } in
     let sh : c.shape-shape.result.now ≡ st.geometry = c.shape-shape.ensures.value ∙ ap (λ (r : Rules). r.geometry) c.pipe.ensures in
     let told : bits_for st.geometry first.task.kind size ≡ c.size_bits.result =
-      ap (λ g. bits_for g first.task.kind size) (sym sh) ∙ ap (λ k. bits_for c.shape-shape.result.now k size) (sym (c.kind.ensures ∙ ap (λ (t : Sketch). t.kind) c.task.ensures)) ∙ sym c.size_bits.ensures.bits in
+    ap (λ g. bits_for g first.task.kind size) (sym sh) ∙ ap (λ k. bits_for c.shape-shape.result.now k size) (sym (c.kind.ensures ∙ ap (λ (t : Sketch). t.kind) c.task.ensures)) ∙ sym c.size_bits.ensures.bits in
     let bits : ℕ = c.in-Some-size_bits.bits in
     let bits_are : bits_for st.geometry first.task.kind size ≡ Some bits = told ∙ c.in-Some-size_bits.is in
     let o : Outline = c.remove.result in
@@ -452,13 +460,14 @@ returns-in-Err-fresh-clause-contents g c =
       looks = looks_too;
       bits_are = subst (λ (x : Outline). bits_for st.geometry x.task.kind size ≡ Some bits) same bits_are;
       rows = rows;
-      room = ap (first_full st.pools bits) (sym arrays) ∙ c.in-Ok.ensures } in
+      room = ap (first_full st.pools bits) (sym arrays) ∙ c.in-Ok.ensures;
+    } in
     let one : Resized os st n size at o bits slots = is_resized os st cap n size at o bits slots sizes in
     let shown : judged v.geometry v.outlines (Resize n size) ≡ judged st.geometry os (Resize n size) = ap (λ (s : SwitchState). judged s.geometry s.outlines (Resize n size)) (sym c.self.view_is) in
     let told_is : judged v.geometry v.outlines (Resize n size) ≡ Ok (Move at (sized o.task size) one.news) = shown ∙ one.judged_is in
     let fresh_is : held_of (fresh_leases bits st.pools c.arrays_in.result) ≡ map live_holding one.news = ap (λ xs. held_of (fresh_leases bits st.pools xs)) c.arrays_in.ensures ∙ one.all.fresh in
     told_refused (Unit {0}) (fresh_leases bits st.pools c.arrays_in.result) (Move at (sized o.task size) one.news) (judged v.geometry v.outlines (Resize n size)) c.start_value-start.result c.fresh.result resizing.Device
-      (g.R.RegFile.contents c.args.regs.now) (g.R.RegFile.contents c.fresh.new.regs) told_is fresh_is c.fresh.ensures.contents
+    (g.R.RegFile.contents c.args.regs.now) (g.R.RegFile.contents c.fresh.new.regs) told_is fresh_is c.fresh.ensures.contents
 
 pub returns-in-Ok-fresh-clause-answer : goal.returns-in-Ok-fresh-clause-answer
 returns-in-Ok-fresh-clause-answer g c =
@@ -476,7 +485,7 @@ returns-in-Ok-fresh-clause-answer g c =
     let looks : Looks os st cap n size at first = record { kept = kept; place = place; here = c.index-kept.ensures; free = asked } in
     let sh : c.shape-shape.result.now ≡ st.geometry = c.shape-shape.ensures.value ∙ ap (λ (r : Rules). r.geometry) c.pipe.ensures in
     let told : bits_for st.geometry first.task.kind size ≡ c.size_bits.result =
-      ap (λ g. bits_for g first.task.kind size) (sym sh) ∙ ap (λ k. bits_for c.shape-shape.result.now k size) (sym (c.kind.ensures ∙ ap (λ (t : Sketch). t.kind) c.task.ensures)) ∙ sym c.size_bits.ensures.bits in
+    ap (λ g. bits_for g first.task.kind size) (sym sh) ∙ ap (λ k. bits_for c.shape-shape.result.now k size) (sym (c.kind.ensures ∙ ap (λ (t : Sketch). t.kind) c.task.ensures)) ∙ sym c.size_bits.ensures.bits in
     let bits : ℕ = c.in-Some-size_bits.bits in
     let bits_are : bits_for st.geometry first.task.kind size ≡ Some bits = told ∙ c.in-Some-size_bits.is in
     let o : Outline = c.remove.result in
@@ -489,23 +498,24 @@ returns-in-Ok-fresh-clause-answer g c =
       looks = looks_too;
       bits_are = subst (λ (x : Outline). bits_for st.geometry x.task.kind size ≡ Some bits) same bits_are;
       rows = rows;
-      room = ap (first_full st.pools bits) (sym arrays) ∙ c.in-Ok.ensures } in
+      room = ap (first_full st.pools bits) (sym arrays) ∙ c.in-Ok.ensures;
+    } in
     let one : Resized os st n size at o bits slots = is_resized os st cap n size at o bits slots sizes in
     let sized_is : c.with_size-sized.result ≡ sized o.task size = c.with_size-sized.ensures.size ∙ ap (λ t. sized t size) c.apart-task.ensures.task in
     let new_is : c.new-in-Ok-fresh.result ≡ kept_as c.with_size-sized.result o.task.size (there c.move_all-rows.result) =
-      c.new-in-Ok-fresh.ensures ∙ ap (λ m. kept_as c.with_size-sized.result m (there c.move_all-rows.result)) (c.size.ensures ∙ ap (λ (t : Sketch). t.size) c.apart-task.ensures.task) in
+    c.new-in-Ok-fresh.ensures ∙ ap (λ m. kept_as c.with_size-sized.result m (there c.move_all-rows.result)) (c.size.ensures ∙ ap (λ (t : Sketch). t.size) c.apart-task.ensures.task) in
     let done = resized_switch os st cap n size at o bits slots c.move_all-rows.result c.with_size-sized.result c.arrays_in.result c.in-Ok-fresh.leases c.fresh.new.self c.move_all-rows.new.self
-      c.put_at-in-Ok-fresh.new.records.items (vec_capacity c.put_at-in-Ok-fresh.new.records) kept one sized_is c.arrays_in.ensures c.in-Ok-fresh.ensures.leases c.in-Ok-fresh.ensures.state
-      c.move_all-rows.ensures.rows c.move_all-rows.ensures.state
-      (c.put_at-in-Ok-fresh.ensures.items ∙ ap₂ (λ xs y. insert xs at y) c.remove.ensures.items new_is) (c.put_at-in-Ok-fresh.ensures.capacity ∙ c.remove.ensures.capacity) in
+    c.put_at-in-Ok-fresh.new.records.items (vec_capacity c.put_at-in-Ok-fresh.new.records) kept one sized_is c.arrays_in.ensures c.in-Ok-fresh.ensures.leases c.in-Ok-fresh.ensures.state
+    c.move_all-rows.ensures.rows c.move_all-rows.ensures.state
+    (c.put_at-in-Ok-fresh.ensures.items ∙ ap₂ (λ xs y. insert xs at y) c.remove.ensures.items new_is) (c.put_at-in-Ok-fresh.ensures.capacity ∙ c.remove.ensures.capacity) in
     let shown : judged v.geometry v.outlines (Resize n size) ≡ judged st.geometry os (Resize n size) = ap (λ (s : SwitchState). judged s.geometry s.outlines (Resize n size)) (sym c.self.view_is) in
     let told_is : judged v.geometry v.outlines (Resize n size) ≡ Ok (Move at (sized o.task size) one.news) = shown ∙ one.judged_is in
     let now : State → List Outline → SwitchState = λ s ys. record { geometry = s.geometry; hash_key = s.hash_key; outlines = ys } in
     let state_is : now c.move_all-rows.new.self c.put_at-in-Ok-fresh.new.records.items ≡ now st (edit_at at (moved_outline (sized o.task size) one.news) os) =
-      ap (λ s. now s c.put_at-in-Ok-fresh.new.records.items) c.move_all-rows.ensures.state
-      ∙ ap (λ s. now s c.put_at-in-Ok-fresh.new.records.items) c.in-Ok-fresh.ensures.state ∙ ap (now st) done.1 in
+    ap (λ s. now s c.put_at-in-Ok-fresh.new.records.items) c.move_all-rows.ensures.state
+    ∙ ap (λ s. now s c.put_at-in-Ok-fresh.new.records.items) c.in-Ok-fresh.ensures.state ∙ ap (now st) done.1 in
     subst (λ r. Answers {T = Unit {0}} resize_cause r (Ok tt) v (now c.move_all-rows.new.self c.put_at-in-Ok-fresh.new.records.items)) (sym told_is)
-      (state_is ∙ ap (λ (s : SwitchState). record s { outlines = edit_at at (moved_outline (sized o.task size) one.news) s.outlines }) c.self.view_is)
+    (state_is ∙ ap (λ (s : SwitchState). record s { outlines = edit_at at (moved_outline (sized o.task size) one.news) s.outlines }) c.self.view_is)
 
 pub returns-in-Ok-fresh-clause-contents : goal.returns-in-Ok-fresh-clause-contents
 returns-in-Ok-fresh-clause-contents g c =
@@ -523,7 +533,7 @@ returns-in-Ok-fresh-clause-contents g c =
     let looks : Looks os st cap n size at first = record { kept = kept; place = place; here = c.index-kept.ensures; free = asked } in
     let sh : c.shape-shape.result.now ≡ st.geometry = c.shape-shape.ensures.value ∙ ap (λ (r : Rules). r.geometry) c.pipe.ensures in
     let told : bits_for st.geometry first.task.kind size ≡ c.size_bits.result =
-      ap (λ g. bits_for g first.task.kind size) (sym sh) ∙ ap (λ k. bits_for c.shape-shape.result.now k size) (sym (c.kind.ensures ∙ ap (λ (t : Sketch). t.kind) c.task.ensures)) ∙ sym c.size_bits.ensures.bits in
+    ap (λ g. bits_for g first.task.kind size) (sym sh) ∙ ap (λ k. bits_for c.shape-shape.result.now k size) (sym (c.kind.ensures ∙ ap (λ (t : Sketch). t.kind) c.task.ensures)) ∙ sym c.size_bits.ensures.bits in
     let bits : ℕ = c.in-Some-size_bits.bits in
     let bits_are : bits_for st.geometry first.task.kind size ≡ Some bits = told ∙ c.in-Some-size_bits.is in
     let o : Outline = c.remove.result in
@@ -536,10 +546,11 @@ returns-in-Ok-fresh-clause-contents g c =
       looks = looks_too;
       bits_are = subst (λ (x : Outline). bits_for st.geometry x.task.kind size ≡ Some bits) same bits_are;
       rows = rows;
-      room = ap (first_full st.pools bits) (sym arrays) ∙ c.in-Ok.ensures } in
+      room = ap (first_full st.pools bits) (sym arrays) ∙ c.in-Ok.ensures;
+    } in
     let one : Resized os st n size at o bits slots = is_resized os st cap n size at o bits slots sizes in
     let shown : judged v.geometry v.outlines (Resize n size) ≡ judged st.geometry os (Resize n size) = ap (λ (s : SwitchState). judged s.geometry s.outlines (Resize n size)) (sym c.self.view_is) in
     let told_is : judged v.geometry v.outlines (Resize n size) ≡ Ok (Move at (sized o.task size) one.news) = shown ∙ one.judged_is in
     let fresh_is : held_of (fresh_leases bits st.pools c.arrays_in.result) ≡ map live_holding one.news = ap (λ xs. held_of (fresh_leases bits st.pools xs)) c.arrays_in.ensures ∙ one.all.fresh in
     told_made ResizeFault (fresh_leases bits st.pools c.arrays_in.result) (Move at (sized o.task size) one.news) (judged v.geometry v.outlines (Resize n size)) c.start_value-start.result c.fresh.result c.in-Ok-fresh.leases tt
-      (g.R.RegFile.contents c.args.regs.now) (g.R.RegFile.contents c.fresh.new.regs) told_is fresh_is (c.start_value-start.ensures ∙ ap start_of (c.kind-2.ensures ∙ ap (λ (t : Sketch). t.kind) c.apart-task.ensures.task)) c.in-Ok-fresh.is c.fresh.ensures.contents
+    (g.R.RegFile.contents c.args.regs.now) (g.R.RegFile.contents c.fresh.new.regs) told_is fresh_is (c.start_value-start.ensures ∙ ap start_of (c.kind-2.ensures ∙ ap (λ (t : Sketch). t.kind) c.apart-task.ensures.task)) c.in-Ok-fresh.is c.fresh.ensures.contents
