@@ -8,7 +8,8 @@ pub(crate) const ONE_ARRAY: &str =
     "version = 1\ngroups = 1\ncmus = 1\nunits = 1\nlog_registers = 5\n";
 
 /// A session with tasks of three kinds, one of which is resized.
-pub(crate) const THREE_TASKS: &str = "add flows cms 3 key=src_ip,dst_ip,src_port,dst_port,proto attr=packets filter=proto:6 memory=256\n\
+pub(crate) const THREE_TASKS: &str =
+    "add flows cms 3 key=src_ip,dst_ip,src_port,dst_port,proto attr=packets filter=proto:6 memory=256\n\
 add inner bloom 2 key=src_ip attr=flow filter=src_ip:10.0.0.0/8 memory=64\n\
 add dests hll 1 key=dst_ip attr=flow filter=all memory=64\n\
 packets 2\n\

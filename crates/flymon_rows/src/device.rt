@@ -110,12 +110,20 @@ fn adds_and_resizes_again(rt: HostRuntime) -> Result<(), Fail> {
             return Err("a switch")?;
         };
         if failing < 6 {
-            assert_eq!(rt; add_to(&mut switch, &mut regs, &task), Err(AddFault::Device), "at {failing}");
+            assert_eq!(rt;
+                add_to(&mut switch, &mut regs, &task),
+                Err(AddFault::Device),
+                "at {failing}"
+            );
             assert_eq!(rt; switch.count(), 0);
             assert_eq!(rt; switch.find(task.name()), None);
             expect_uses(&rt, alloc, &switch, failing, &UNUSED);
         }
-        assert_eq!(rt; add_to(&mut switch, &mut regs, &task), Ok(()), "at {failing}");
+        assert_eq!(rt;
+            add_to(&mut switch, &mut regs, &task),
+            Ok(()),
+            "at {failing}"
+        );
         assert_eq!(rt; switch.find(task.name()), Some(0));
         expect_uses(&rt, alloc, &switch, failing, &ADDED);
         if failing >= 6 {
@@ -123,7 +131,11 @@ fn adds_and_resizes_again(rt: HostRuntime) -> Result<(), Fail> {
             assert_eq!(rt; refused, Err(ResizeFault::Device), "at {failing}");
             expect_uses(&rt, alloc, &switch, failing, &ADDED);
         }
-        assert_eq!(rt; resize_in(&mut switch, &mut regs, task.name(), 512), Ok(()), "at {failing}");
+        assert_eq!(rt;
+            resize_in(&mut switch, &mut regs, task.name(), 512),
+            Ok(()),
+            "at {failing}"
+        );
         assert_eq!(rt; switch.count(), 1);
         expect_uses(&rt, alloc, &switch, failing, &RESIZED);
         switch.close();

@@ -23,14 +23,20 @@ impl Lines {
         let digits = buffer.format(number);
         self.script.push_str("add t")?;
         self.script.push_str(digits)?;
-        self.script.push_str(" cms 1 key=src_ip attr=packets filter=src_port:")?;
+        self.script
+            .push_str(" cms 1 key=src_ip attr=packets filter=src_port:")?;
         self.script.push_str(digits)?;
         self.script.push_str(" memory=")?;
         self.script.push_str(size)?;
         self.script.push_str("\n")?;
-        self.out.push_str(if added { "added t" } else { "refused add t" })?;
+        self.out
+            .push_str(if added { "added t" } else { "refused add t" })?;
         self.out.push_str(digits)?;
-        self.out.push_str(if added { "\n" } else { " no partition need 1 have 0\n" })
+        self.out.push_str(if added {
+            "\n"
+        } else {
+            " no partition need 1 have 0\n"
+        })
     }
 
     /// Removes the task of this number.
@@ -69,7 +75,8 @@ const GREAT: Limits = Limits {
 };
 
 /// What the default switch tells of its use where no task is live.
-const UNUSED: &str = "stat groups 3 arrays 9\ngroup 0 units - - -\ngroup 1 units - - -\ngroup 2 units - - -\n\
+const UNUSED: &str =
+    "stat groups 3 arrays 9\ngroup 0 units - - -\ngroup 1 units - - -\ngroup 2 units - - -\n\
 array 0 free 1024 largest 1024 live 0\narray 1 free 1024 largest 1024 live 0\n\
 array 2 free 1024 largest 1024 live 0\narray 3 free 1024 largest 1024 live 0\n\
 array 4 free 1024 largest 1024 live 0\narray 5 free 1024 largest 1024 live 0\n\
@@ -77,7 +84,8 @@ array 6 free 1024 largest 1024 live 0\narray 7 free 1024 largest 1024 live 0\n\
 array 8 free 1024 largest 1024 live 0\nend\n";
 
 /// One array of 1,024 registers in up to 1,024 partitions.
-const FINE: &str = "version = 2\nlog_blocks = 10\n[[group]]\ncmus = 1\nunits = 1\nlog_registers = 10\n";
+const FINE: &str =
+    "version = 2\nlog_blocks = 10\n[[group]]\ncmus = 1\nunits = 1\nlog_registers = 10\n";
 
 #[test]
 fn serves_a_task_for_each_partition(rt: HostRuntime) -> Result<(), Fail> {
@@ -91,11 +99,25 @@ fn serves_a_task_for_each_partition(rt: HostRuntime) -> Result<(), Fail> {
     out.push_str("tasks 0\nend\n")?;
     let files = session_files(alloc, script.as_bytes(), capture_of(alloc, &[])?)?;
     let ending = run_over(alloc, WORDS, files, &mut RamFile::new(), GREAT)?;
-    expect_ending(&rt, &"288 tasks", &ending, Status::Done, out.as_bytes(), b"");
+    expect_ending(
+        &rt,
+        &"288 tasks",
+        &ending,
+        Status::Done,
+        out.as_bytes(),
+        b"",
+    );
 
     let Lines { script, out } = all_tasks(alloc, 1024, "1")?;
     let files = profiled_files(alloc, FINE, script.as_bytes(), capture_of(alloc, &[])?)?;
     let ending = run_over(alloc, PROFILED, files, &mut RamFile::new(), GREAT)?;
-    expect_ending(&rt, &"1024 tasks", &ending, Status::Done, out.as_bytes(), b"");
+    expect_ending(
+        &rt,
+        &"1024 tasks",
+        &ending,
+        Status::Done,
+        out.as_bytes(),
+        b"",
+    );
     Ok(())
 }
