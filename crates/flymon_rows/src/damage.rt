@@ -136,3 +136,70 @@ fn counts_up_to_the_damage(rt: HostRuntime) -> Result<(), Fail> {
     assert_eq!(rt; regs.calls(), Some(calls.as_slice()));
     Ok(())
 }
+
+/// How a run over a capture of one packet ends where only so many of its 94 bytes are kept.
+fn cut_to(kept: usize) -> (Status, &'static str, &'static str) {
+    match kept {
+        0..24 => (Status::BadCapture, "", "bad capture: short header\n"),
+        24 => (Status::Done, "added hot\npackets 0\n", ""),
+        25..94 => (
+            Status::BadCapture,
+            "added hot\n",
+            "bad capture: short record at 24\n",
+        ),
+        _ => (Status::Done, "added hot\npackets 1\n", ""),
+    }
+}
+
+#[test]
+fn tells_each_cut(rt: HostRuntime) -> Result<(), Fail> {
+    let alloc = rt.alloc();
+    for kept in 0..95usize {
+        let mut capture = capture_of(alloc, &[1])?;
+        capture.truncate(kept);
+        let files = session_files(alloc, ADD_AND_RUN, capture)?;
+        let ending = run_over(alloc, WORDS, files, &mut RamFile::new(), LIMITS)?;
+        let (status, out, message) = cut_to(kept);
+        expect_ending(
+            &rt,
+            &kept,
+            &ending,
+            status,
+            out.as_bytes(),
+            message.as_bytes(),
+        );
+    }
+    Ok(())
+}
+
+/// Captured lengths that a record of 54 bytes at 24 may claim, and what the message says of them.
+const LENGTHS: [(u32, &str); 3] = [
+    (55, "bad capture: short record at 24\n"),
+    (262_145, "bad capture: big record at 24 length 262145\n"),
+    (
+        4_294_967_295,
+        "bad capture: big record at 24 length 4294967295\n",
+    ),
+];
+
+#[test]
+fn believes_no_length(rt: HostRuntime) -> Result<(), Fail> {
+    let alloc = rt.alloc();
+    for (length, message) in LENGTHS {
+        let whole = capture_of(alloc, &[1])?;
+        let mut capture = Vec::from_slice(alloc, &whole[..whole.len().min(32)])?;
+        capture.extend_from_slice(&length.to_le_bytes())?;
+        capture.extend_from_slice(&whole[whole.len().min(36)..])?;
+        let files = session_files(alloc, ADD_AND_RUN, capture)?;
+        let ending = run_over(alloc, WORDS, files, &mut RamFile::new(), LIMITS)?;
+        expect_ending(
+            &rt,
+            &length,
+            &ending,
+            Status::BadCapture,
+            b"added hot\n",
+            message.as_bytes(),
+        );
+    }
+    Ok(())
+}

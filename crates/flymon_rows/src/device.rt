@@ -1,9 +1,11 @@
 //! Calls on a switch whose device fails, and the same calls made again.
+ghost use Rattle.pipe_core.specs.Rules.{IsShaped};
+
 use group_keys::GroupKeys;
 use hash_units::standard;
-use reg_file::TraceFile;
+use reg_file::{RegFile, TraceFile};
 use rule_txn::{AddFault, ResizeFault, StartFail, Switch};
-use sketch_defs::Task;
+use sketch_defs::{Name, Task};
 use std::alloc::{AllocError, Global};
 use std::process::Abort;
 use std::test::Fail;
@@ -54,6 +56,29 @@ fn expect_uses(rt: &impl Abort, alloc: Global, switch: &Switch, case: u64, wante
     assert_eq!(rt; uses.as_slice(), wanted.as_slice(), "at {case}");
 }
 
+/// Adds a task; the registers keep their shape.
+#[tactic(auto, using(crate::proofs::SwitchLemmas::stays_shaped))]
+fn add_to<R: RegFile>(switch: &mut Switch, regs: &mut R, task: &Task) -> Result<(), AddFault>
+    requires { IsShaped switch.old.geometry (R.dims regs.old) }
+    ensures { IsShaped switch.new.geometry (R.dims regs.new) }
+{
+    switch.add(regs, task)
+}
+
+/// Resizes a task; the registers keep their shape.
+#[tactic(auto, using(crate::proofs::SwitchLemmas::stays_shaped))]
+fn resize_in<R: RegFile>(
+    switch: &mut Switch,
+    regs: &mut R,
+    name: &Name,
+    size: u32,
+) -> Result<(), ResizeFault>
+    requires { IsShaped switch.old.geometry (R.dims regs.old) }
+    ensures { IsShaped switch.new.geometry (R.dims regs.new) }
+{
+    switch.resize(regs, name, size)
+}
+
 #[test]
 fn starts_again(rt: HostRuntime) -> Result<(), Fail> {
     let alloc = rt.alloc();
@@ -86,7 +111,7 @@ fn adds_and_resizes_again(rt: HostRuntime) -> Result<(), Fail> {
         };
         if failing < 6 {
             assert_eq!(rt;
-                switch.add(&mut regs, &task),
+                add_to(&mut switch, &mut regs, &task),
                 Err(AddFault::Device),
                 "at {failing}"
             );
@@ -94,16 +119,20 @@ fn adds_and_resizes_again(rt: HostRuntime) -> Result<(), Fail> {
             assert_eq!(rt; switch.find(task.name()), None);
             expect_uses(&rt, alloc, &switch, failing, &UNUSED);
         }
-        assert_eq!(rt; switch.add(&mut regs, &task), Ok(()), "at {failing}");
+        assert_eq!(rt;
+            add_to(&mut switch, &mut regs, &task),
+            Ok(()),
+            "at {failing}"
+        );
         assert_eq!(rt; switch.find(task.name()), Some(0));
         expect_uses(&rt, alloc, &switch, failing, &ADDED);
         if failing >= 6 {
-            let refused = switch.resize(&mut regs, task.name(), 512);
+            let refused = resize_in(&mut switch, &mut regs, task.name(), 512);
             assert_eq!(rt; refused, Err(ResizeFault::Device), "at {failing}");
             expect_uses(&rt, alloc, &switch, failing, &ADDED);
         }
         assert_eq!(rt;
-            switch.resize(&mut regs, task.name(), 512),
+            resize_in(&mut switch, &mut regs, task.name(), 512),
             Ok(()),
             "at {failing}"
         );

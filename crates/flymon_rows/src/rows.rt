@@ -87,7 +87,7 @@ const IPV6_RECORD: &[u8; 90] = b"\x00\x00\x00\x00\x00\x00\x00\x00\x4a\x00\x00\x0
 
 /// A script that counts packets by their IPv6 source, behind a filter of a prefix.
 const IPV6_SCRIPT: &[u8] =
-    b"add six cms 1 key=src_ip6 attr=packets filter=src_ip6:2001:db8::/32 memory=32\nrun\nread six\nquery six src_ip6:2001:DB8::1\n";
+    b"add six cms 1 key=src_ip6 attr=packets filter=src_ip6:2001:db8::/32 memory=32\nrun\nread six\nquery six src_ip6:2001:DB8::1\nshow\n";
 
 #[test]
 fn counts_packets_by_ipv6_source(rt: HostRuntime) -> Result<(), Fail> {
@@ -101,7 +101,9 @@ fn counts_packets_by_ipv6_source(rt: HostRuntime) -> Result<(), Fail> {
         &"IPv6",
         &ending,
         Status::Done,
-        b"added six\npackets 2\nread six rows 1 size 32 start 0\ncell 0 8 1\nend\nquery six 1\n",
+        b"added six\npackets 2\nread six rows 1 size 32 start 0\ncell 0 8 1\nend\nquery six 1\ntasks 1\n\
+task six cms 1 key=src_ip6 attr=packets filter=src_ip6:2001:db8:0:0:0:0:0:0/32 memory=32\n\
+row 0 group 0 cmu 0 base 0 size 32 keys 0\nend\n",
         b"",
     );
     Ok(())
