@@ -11,6 +11,7 @@ use std::test::Fail;
 const DEMO_LIMITS: Limits = Limits {
     piece: 4096,
     room: 4096,
+    err_room: 4096,
 };
 
 /// What a demo writes behind its read-outs.
