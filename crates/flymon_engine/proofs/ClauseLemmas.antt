@@ -24,7 +24,7 @@ use Rattle.flymon_engine.specs.declared.stop.Refusal.TheVariants as refusals
 use Rattle.flymon_engine.specs.declared.stop.Stop.{Stop}
 use Rattle.flymon_engine.specs.declared.stop.Stop.TheVariants.{Opening, Carrying}
 use Rattle.flymon_engine.specs.Opening.{StraysStay}
-use Rattle.flymon_engine.specs.Words.{Form, Wrong, Replay, Demo}
+use Rattle.flymon_engine.specs.Words.{Form, Wrong, Carry, Demo}
 use Rattle.flymon_engine.specs.Works.{works_of}
 use Rattle.flymon_engine.specs.Boards.{Board, Rules}
 use Rattle.flymon_engine.specs.Moves.{NoCalls}
@@ -32,14 +32,14 @@ use Rattle.flymon_engine.specs.Runs.{Run}
 use Rattle.flymon_engine.specs.Stops.{Ends}
 use Rattle.flymon_engine.specs.Worlds.{WhereTold}
 use Rattle.flymon_engine.specs.Going.{going, damage_met, GoesTo}
-use Rattle.flymon_engine.specs.Endings.{Seen, FilesStay, DemoMayEnd, CarriesDemo, Carried, CarriesReplay, Carries, Promises, DidNothing, IsRefused, beginning, finished, status_of, status_of_refusal, status_of_halt}
+use Rattle.flymon_engine.specs.Endings.{Seen, FilesStay, DemoMayEnd, CarriesDemo, Carried, CarriesFiles, Carries, Promises, DidNothing, IsRefused, beginning, finished, status_of, status_of_refusal, status_of_halt}
 use Rattle.flymon_engine.specs.Clauses.{DemoGoes, IsOfDemo, LeavesFiles, HasOpened, HasBadProfile, HasBadScript, HasBadHeader, FailsInPlace, IsWhole, GoesAll, IsDamaged, HasShaped, FailsDevice, FailsByName, IsEarly}
 use Rattle.flymon_engine.proofs.GoLemmas.{agrees}
 
 -- the words are no form, and that is Usage
 refused_usage : (form : Form) (before after : Seen) → IsRefused form refusals.Usage before after → form ≡ Wrong
 refused_usage Wrong before after refused = refl
-refused_usage (Replay profile script capture) before after refused = absurd refused.texts
+refused_usage (Carry way profile script capture) before after refused = absurd refused.texts
 refused_usage (Demo seed count) before after refused = absurd refused.1
 
 pub to_wrong : (rules : Rules) (lays : Board → Contents → Type 0) (form : Form) (before after : Seen) (ending : Result (Unit {0}) Stop)
@@ -67,7 +67,7 @@ from_wrong rules lays before after (Err (Carrying halt)) promises = absurd promi
 pub to_bad_profile : (rules : Rules) (lays : Board → Contents → Type 0) (form : Form) (before after : Seen) (ending : Result (Unit {0}) Stop)
     → status_of ending ≡ statuses.BadProfile → Promises rules lays form ending before after → HasBadProfile form after.directory after.slots
 to_bad_profile rules lays Wrong before after (Err (Opening (refusals.Profile fault))) e promises = absurd (let bad = promises.refused.0 in cc)
-to_bad_profile rules lays (Replay profile script capture) before after (Err (Opening (refusals.Profile fault))) e promises = (fault, promises.refused.texts)
+to_bad_profile rules lays (Carry way profile script capture) before after (Err (Opening (refusals.Profile fault))) e promises = (fault, promises.refused.texts)
 to_bad_profile rules lays (Demo seed count) before after (Err (Opening (refusals.Profile fault))) e promises = absurd promises.refused.1
 to_bad_profile rules lays form before after (Ok x) e promises = absurd (let bad : statuses.Done ≡ statuses.BadProfile = e in cc)
 to_bad_profile rules lays form before after (Err (Opening refusals.Usage)) e promises = absurd (let bad : statuses.Usage ≡ statuses.BadProfile = e in cc)
@@ -84,7 +84,7 @@ to_bad_profile rules lays form before after (Err (Carrying halts.Output)) e prom
 pub to_bad_script : (rules : Rules) (lays : Board → Contents → Type 0) (form : Form) (before after : Seen) (ending : Result (Unit {0}) Stop)
     → status_of ending ≡ statuses.BadScript → Promises rules lays form ending before after → HasBadScript form after.directory after.slots
 to_bad_script rules lays Wrong before after (Err (Opening (refusals.Script fault))) e promises = absurd (let bad = promises.refused.0 in cc)
-to_bad_script rules lays (Replay profile script capture) before after (Err (Opening (refusals.Script fault))) e promises = (fault, promises.refused.texts)
+to_bad_script rules lays (Carry way profile script capture) before after (Err (Opening (refusals.Script fault))) e promises = (fault, promises.refused.texts)
 to_bad_script rules lays (Demo seed count) before after (Err (Opening (refusals.Script fault))) e promises = absurd promises.refused.1
 to_bad_script rules lays form before after (Ok x) e promises = absurd (let bad : statuses.Done ≡ statuses.BadScript = e in cc)
 to_bad_script rules lays form before after (Err (Opening refusals.Usage)) e promises = absurd (let bad : statuses.Usage ≡ statuses.BadScript = e in cc)
@@ -159,7 +159,7 @@ goes_all : {T : Type 0} (rules : Rules) (lays : Board → Contents → Type 0) (
     → Carries rules lays form before after result → GoesAll rules lays form damage before after
 goes_all rules lays Wrong damage before after result agree may carried = absurd carried
 goes_all rules lays (Demo seed count) damage before after result agree may carried = goes_demo rules lays seed count damage before after result agree may carried
-goes_all rules lays (Replay profile script capture) damage before after result agree may carried = record {
+goes_all rules lays (Carry way profile script capture) damage before after result agree may carried = record {
   setup = carried.setup;
   commands = carried.commands;
   opened = carried.opened;
@@ -186,7 +186,7 @@ to_done rules lays form before after (Err (Carrying halts.Output)) e promises = 
 
 bad_header : (form : Form) (fault : CaptureFault) (before after : Seen) → IsRefused form (refusals.Header fault) before after → HasBadHeader form after.directory after.slots
 bad_header Wrong fault before after refused = absurd (let bad = refused.0 in cc)
-bad_header (Replay profile script capture) fault before after refused = (fault, refused.texts)
+bad_header (Carry way profile script capture) fault before after refused = (fault, refused.texts)
 bad_header (Demo seed count) fault before after refused = absurd refused.1
 
 pub to_damage : (rules : Rules) (lays : Board → Contents → Type 0) (form : Form) (before after : Seen) (ending : Result (Unit {0}) Stop)
@@ -207,19 +207,19 @@ to_damage rules lays form before after (Err (Carrying halts.Output)) e promises 
 opened_by : {T : Type 0} (rules : Rules) (lays : Board → Contents → Type 0) (form : Form) (before after : Seen) (result : Result T Halt)
     → Carries rules lays form before after result → HasOpened form after.directory after.slots
 opened_by rules lays Wrong before after result carried = absurd carried
-opened_by rules lays (Replay profile script capture) before after result carried = (carried.setup, carried.commands, carried.opened)
+opened_by rules lays (Carry way profile script capture) before after result carried = (carried.setup, carried.commands, carried.opened)
 opened_by rules lays (Demo seed count) before after result carried = tt
 
 input_opening : (form : Form) (file : _) (before after : Seen) → IsRefused form (refusals.Input file) before after
     → Rose before.files after.files × FailsInPlace form after.directory after.slots after.last
 input_opening Wrong file before after refused = absurd (let bad = refused.0 in cc)
-input_opening (Replay profile script capture) file before after refused = (refused.cause.0, inl (file, refused.cause.1, refused.texts))
+input_opening (Carry way profile script capture) file before after refused = (refused.cause.0, inl (file, refused.cause.1, refused.texts))
 input_opening (Demo seed count) file before after refused = absurd refused.1
 
 input_carrying : (rules : Rules) (lays : Board → Contents → Type 0) (form : Form) (before after : Seen) → after.last ≡ 2
     → Carries {T = Unit {0}} rules lays form before after (Err halts.Input) → FailsInPlace form after.directory after.slots after.last
 input_carrying rules lays Wrong before after e carried = absurd carried
-input_carrying rules lays (Replay profile script capture) before after e carried = inr (e, opened_by {T = Unit {0}} rules lays (Replay profile script capture) before after (Err halts.Input) carried)
+input_carrying rules lays (Carry way profile script capture) before after e carried = inr (e, opened_by {T = Unit {0}} rules lays (Carry way profile script capture) before after (Err halts.Input) carried)
 input_carrying rules lays (Demo seed count) before after e carried = absurd carried.may
 
 pub to_input : (rules : Rules) (lays : Board → Contents → Type 0) (form : Form) (before after : Seen) (ending : Result (Unit {0}) Stop)
@@ -241,7 +241,7 @@ to_input rules lays form before after (Err (Carrying halts.Output)) e promises =
 shaped_by : {T : Type 0} (rules : Rules) (lays : Board → Contents → Type 0) (form : Form) (before after : Seen) (result : Result T Halt)
     → Carries rules lays form before after result → HasShaped form after
 shaped_by rules lays Wrong before after result carried = absurd carried
-shaped_by rules lays (Replay profile script capture) before after result carried = (carried.setup, carried.commands, carried.opened, carried.shaped)
+shaped_by rules lays (Carry way profile script capture) before after result carried = (carried.setup, carried.commands, carried.opened, carried.shaped)
 shaped_by rules lays (Demo seed count) before after result carried = carried.shaped
 
 pub to_output : (rules : Rules) (lays : Board → Contents → Type 0) (form : Form) (before after : Seen) (ending : Result (Unit {0}) Stop)
@@ -261,7 +261,7 @@ to_output rules lays form before after (Err (Carrying halts.Output)) e promises 
 
 device_opening : (form : Form) (before after : Seen) → IsRefused form refusals.Device before after → Rose before.regs after.regs × FailsDevice form after
 device_opening Wrong before after refused = absurd (let bad = refused.0 in cc)
-device_opening (Replay profile script capture) before after refused = (refused.rose, inl ((refused.setup, refused.commands, refused.opened), refused.none))
+device_opening (Carry way profile script capture) before after refused = (refused.rose, inl ((refused.setup, refused.commands, refused.opened), refused.none))
 device_opening (Demo seed count) before after refused = (refused.1.0, inl (tt, refused.1.1))
 
 pub to_device : (rules : Rules) (lays : Board → Contents → Type 0) (form : Form) (before after : Seen) (ending : Result (Unit {0}) Stop)
@@ -306,19 +306,19 @@ strays_stay before after stays = by after.directory.names
 refused_names : (form : Form) (refusal : Refusal) (before after : Seen) → (status_of_refusal refusal ≡ statuses.InputFault → ⊥) → IsRefused form refusal before after
     → StraysStay after.directory before.strays after.strays
 refused_names Wrong refusal before after other refused = refused.1
-refused_names (Replay profile script capture) refusals.Usage before after other refused = refused.names
-refused_names (Replay profile script capture) (refusals.Profile fault) before after other refused = refused.names
-refused_names (Replay profile script capture) (refusals.Script fault) before after other refused = refused.names
-refused_names (Replay profile script capture) (refusals.Header fault) before after other refused = refused.names
-refused_names (Replay profile script capture) (refusals.Input file) before after other refused = absurd (other refl)
-refused_names (Replay profile script capture) refusals.Device before after other refused = refused.strays
-refused_names (Replay profile script capture) refusals.Memory before after other refused = refused.names
+refused_names (Carry way profile script capture) refusals.Usage before after other refused = refused.names
+refused_names (Carry way profile script capture) (refusals.Profile fault) before after other refused = refused.names
+refused_names (Carry way profile script capture) (refusals.Script fault) before after other refused = refused.names
+refused_names (Carry way profile script capture) (refusals.Header fault) before after other refused = refused.names
+refused_names (Carry way profile script capture) (refusals.Input file) before after other refused = absurd (other refl)
+refused_names (Carry way profile script capture) refusals.Device before after other refused = refused.strays
+refused_names (Carry way profile script capture) refusals.Memory before after other refused = refused.names
 refused_names (Demo seed count) refusal before after other refused = strays_stay before after refused.0
 
 carried_names : {T : Type 0} (rules : Rules) (lays : Board → Contents → Type 0) (form : Form) (before after : Seen) (result : Result T Halt)
     → Carries rules lays form before after result → StraysStay after.directory before.strays after.strays
 carried_names rules lays Wrong before after result carried = absurd carried
-carried_names rules lays (Replay profile script capture) before after result carried = carried.strays
+carried_names rules lays (Carry way profile script capture) before after result carried = carried.strays
 carried_names rules lays (Demo seed count) before after result carried = strays_stay before after carried.stays
 
 pub to_names : (rules : Rules) (lays : Board → Contents → Type 0) (form : Form) (before after : Seen) (ending : Result (Unit {0}) Stop)
@@ -331,14 +331,14 @@ to_names rules lays form before after (Err (Carrying halt)) other promises = car
 input_names : (form : Form) (file : File) (before after : Seen) → IsRefused form (refusals.Input file) before after
     → FailsByName form after.directory after.last before.strays after.strays
 input_names Wrong file before after refused = absurd (let bad = refused.0 in cc)
-input_names (Replay profile script capture) file before after refused = (file, refused.cause.1, refused.names)
+input_names (Carry way profile script capture) file before after refused = (file, refused.cause.1, refused.names)
 input_names (Demo seed count) file before after refused = absurd refused.1
 
 carrying_names : (rules : Rules) (lays : Board → Contents → Type 0) (form : Form) (before after : Seen) → after.last ≡ 2
     → Carries {T = Unit {0}} rules lays form before after (Err halts.Input) → FailsByName form after.directory after.last before.strays after.strays
 carrying_names rules lays Wrong before after e carried = absurd carried
 carrying_names rules lays (Demo seed count) before after e carried = absurd carried.may
-carrying_names rules lays (Replay profile script capture) before after e carried = (files.Capture, e, by after.directory.names carried.strays)
+carrying_names rules lays (Carry way profile script capture) before after e carried = (files.Capture, e, by after.directory.names carried.strays)
   where
     by : (x : Option (List (List ℕ))) → IfSome x (λ there. after.strays ≡ before.strays) → IfSome x (λ there. list_any (bytes_eq capture) there ≡ true → after.strays ≡ before.strays)
     by None h = tt
@@ -384,7 +384,7 @@ carried_demo rules lays seed count before after halts.Output carried = (carried.
 pub to_demo : (rules : Rules) (lays : Board → Contents → Type 0) (form : Form) (before after : Seen) (ending : Result (Unit {0}) Stop)
     → Promises rules lays form ending before after → LeavesFiles form (status_of ending) before after
 to_demo rules lays Wrong before after ending promises = tt
-to_demo rules lays (Replay profile script capture) before after ending promises = tt
+to_demo rules lays (Carry way profile script capture) before after ending promises = tt
 to_demo rules lays (Demo seed count) before after (Ok x) promises = (promises.stays, tt)
 to_demo rules lays (Demo seed count) before after (Err (Opening refusal)) promises = refused_demo seed count refusal before after promises.refused
 to_demo rules lays (Demo seed count) before after (Err (Carrying halt)) promises = carried_demo rules lays seed count before after halt promises.carried

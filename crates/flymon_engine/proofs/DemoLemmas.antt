@@ -35,7 +35,7 @@ use Rattle.flymon_engine.specs.declared.stop.Refusal.{Refusal}
 use Rattle.flymon_engine.specs.declared.stop.Refusal.TheVariants as refusals
 use Rattle.flymon_engine.specs.declared.stop.Stop.{Stop}
 use Rattle.flymon_engine.specs.declared.stop.Stop.TheVariants.{Opening, Carrying}
-use Rattle.flymon_engine.specs.Words.{Demo, Replay}
+use Rattle.flymon_engine.specs.Words.{Demo, Carry}
 use Rattle.flymon_engine.specs.Works.{works_of}
 use Rattle.flymon_engine.specs.Causes.{HasCause}
 use Rattle.flymon_engine.specs.Arrivals.{Arrival, Left, left_in, left_by, left_of}
@@ -45,7 +45,7 @@ use Rattle.flymon_engine.specs.Runs.{Run, passed, pass_first, asked_by, taken_by
 use Rattle.flymon_engine.specs.Stops.{Ends}
 use Rattle.flymon_engine.specs.Going.{damage_met}
 use Rattle.flymon_engine.specs.Worlds.{WhereTold}
-use Rattle.flymon_engine.specs.Endings.{Seen, FilesStay, StopsDemo, DemoMayEnd, CarriesDemo, CarriesReplay, Carried, Promises, StopsReplay, beginning}
+use Rattle.flymon_engine.specs.Endings.{Seen, FilesStay, StopsDemo, DemoMayEnd, CarriesDemo, CarriesFiles, Carried, Promises, StopsOpening, beginning}
 use Rattle.flymon_engine.proofs.GoLemmas.{agrees}
 
 -- ---- the two texts
@@ -196,7 +196,7 @@ may_end whole r lays seed count few before after (Err halts.Output) commands at 
 carries : CapturesAreWhole → (r : Rules) (lays : Board → Contents → Type 0) (seed count : ℕ) → count ≤ 1000000
     → (s n f0 l0 st0 m l : ℕ) (d0 : Directory) (slots0 : Slots) (given : List (Option Place)) (before after : Seen) (result : Result (Unit {0}) Halt)
     → DirectoryStays (directory_in seed count) (directory_in s n) → FilesStay before after → (result ≡ Err halts.Input → ⊥)
-    → CarriesReplay {T = Unit {0}} r lays (codes "-") (codes "script") (codes "capture") (beside before f0 l0 st0 d0 slots0) (beside after m l m (directory_in s n) (slots_in s n given)) result
+    → CarriesFiles {T = Unit {0}} r lays (codes "-") (codes "script") (codes "capture") (beside before f0 l0 st0 d0 slots0) (beside after m l m (directory_in s n) (slots_in s n given)) result
     → CarriesDemo {T = Unit {0}} r lays seed count before after result
 carries whole r lays seed count few s n f0 l0 st0 m l d0 slots0 given before after result directory stays never carried =
     let is : carried.setup ≡ standard_profile = carried.opened.profile_text in
@@ -217,7 +217,7 @@ carries whole r lays seed count few s n f0 l0 st0 m l d0 slots0 given before aft
 stops : CapturesAreWhole → (seed count : ℕ) → count ≤ 1000000
     → (s n f0 l0 st0 m l : ℕ) (d0 : Directory) (slots0 : Slots) (given : List (Option Place)) (before after : Seen) (refusal : Refusal)
     → DirectoryStays (directory_in seed count) (directory_in s n) → f0 ≡ 0 → st0 ≡ 0
-    → StopsReplay (codes "-") (codes "script") (codes "capture") refusal (beside before f0 l0 st0 d0 slots0) (beside after m l m (directory_in s n) (slots_in s n given))
+    → StopsOpening (codes "-") (codes "script") (codes "capture") refusal (beside before f0 l0 st0 d0 slots0) (beside after m l m (directory_in s n) (slots_in s n given))
     → StopsDemo refusal before after
 stops whole seed count few s n f0 l0 st0 m l d0 slots0 given before after refusals.Usage directory e0 e1 h = absurd h.texts
 stops whole seed count few s n f0 l0 st0 m l d0 slots0 given before after (refusals.Profile fault) directory e0 e1 h = absurd (let bad : true ≡ false = h.texts.0 in cc)

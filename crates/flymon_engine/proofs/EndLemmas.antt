@@ -26,10 +26,10 @@ use Rattle.flymon_engine.specs.Boards.{Board, Rules, no_tasks}
 use Rattle.flymon_engine.specs.Moves.{Moves, WasTold}
 use Rattle.flymon_engine.specs.Runs.{Run}
 use Rattle.flymon_engine.specs.Works.{works_of}
-use Rattle.flymon_engine.specs.Words.{Form, Replay}
+use Rattle.flymon_engine.specs.Words.{Form, Carry}
 use Rattle.flymon_engine.specs.Worlds.{Before, WhereTold, IsAt, EndsAt}
 use Rattle.flymon_engine.specs.Messages.{SendsMessage}
-use Rattle.flymon_engine.specs.Endings.{Seen, Carried, CarriesReplay, Promises, StopsReading, StopsReplay, beginning, finished, carried_as}
+use Rattle.flymon_engine.specs.Endings.{Seen, Carried, CarriesFiles, Promises, StopsReading, StopsOpening, beginning, finished, carried_as}
 
 -- the operations of the run and those of its end are all that were made since the list was empty
 made_all : (a b c d : Option (List Call)) (xs ys : List Call) → Told (λ old now. now ≡ []) a b → Grows b xs c → Grows c ys d → Told (λ old now. now ≡ xs ++ ys) a d
@@ -74,7 +74,7 @@ carried_on rules stands0 stands1 lays profile reading before after result comman
 -- the promises of a run whose commands were carried out, or stopped
 pub promises_carried : (rules : Rules) (lays : Board → Contents → Type 0) (profile script capture : List ℕ) (before after : Seen) (result : Result (Unit {0}) Halt)
     → ((halt : Halt) → result ≡ Err halt → HasCause before.files after.files after.last before.regs after.regs before.out after.out halt)
-    → CarriesReplay rules lays profile script capture before after result → Promises rules lays (Replay profile script capture) (carried_as result) before after
+    → CarriesFiles rules lays profile script capture before after result → Promises rules lays (Carry way profile script capture) (carried_as result) before after
 promises_carried rules lays profile script capture before after (Ok x) cause carried = carried
 promises_carried rules lays profile script capture before after (Err halt) cause carried = record { cause = cause halt refl; carried = carried }
 
@@ -88,7 +88,7 @@ cause_of_run Output f0 f1 f2 last r0 r1 r2 r3 o0 o1 f r e cause = cause
 
 -- a file that stopped the run
 pub stops_reading : (profile script capture : List ℕ) (refusal : Refusal) (before after : Seen)
-    → StopsReading profile script capture refusal before after → StopsReplay profile script capture refusal before after
+    → StopsReading profile script capture refusal before after → StopsOpening profile script capture refusal before after
 stops_reading profile script capture refusals.Usage before after stops = stops
 stops_reading profile script capture (refusals.Profile fault) before after stops = stops
 stops_reading profile script capture (refusals.Script fault) before after stops = stops

@@ -1,5 +1,5 @@
--- The live tasks of a machine, with their packets, and what becomes of them.
-use Rattle.std.specs.Prelude.{List, [], ℕ}
+-- The live tasks of a machine with their packets, the packets in flight, and what becomes of them.
+use Rattle.std.specs.Prelude.{List, [], ℕ, Bool}
 use Rattle.reg_file.specs.declared.traits.Call.{Call}
 use Rattle.pkt_headers.specs.declared.packets.Packet.{Packet}
 use Rattle.switch_model.specs.Records.{Record}
@@ -7,13 +7,21 @@ use Rattle.sw_profile.specs.declared.profiles.Profile.{Profile}
 use Rattle.flymon_engine.specs.declared.work.Change.{Change}
 use Rattle.readout.specs.declared.requests.Request.{Request}
 
--- the live tasks, and the profile of the switch that they stand on
+-- a packet in flight: the group before which it stands, whether it entered before the last change, and the operations that
+-- it has still to make
+pub record Aloft : Type 0 where
+  pub group : ℕ
+  pub kept : Bool
+  pub calls : List Call
+
+-- the profile of the switch, the live tasks that stand on it, and the packets in flight in order of entry
 pub record Board : Type 0 where
   pub profile : Profile
   pub records : List Record
+  pub flying : List Aloft
 
 abbrev pub no_tasks : Profile → Board
-no_tasks profile = record { profile = profile; records = [] }
+no_tasks profile = record { profile = profile; records = []; flying = [] }
 
 -- what a change or a request comes to if no call of the outside fails, and the lines that say it
 pub data Verdict : Type 0 where

@@ -17,7 +17,7 @@ use Rattle.flymon_engine.specs.declared.status.Status.{Status}
 use Rattle.flymon_engine.specs.declared.status.Status.TheVariants as statuses
 use Rattle.flymon_engine.specs.declared.stop.File.{File}
 use Rattle.flymon_engine.specs.declared.stop.Stop.{Stop}
-use Rattle.flymon_engine.specs.Words.{Form, Wrong, Replay, Demo}
+use Rattle.flymon_engine.specs.Words.{Form, Wrong, Carry, Demo}
 use Rattle.flymon_engine.specs.Works.{works_of}
 use Rattle.flymon_engine.specs.Arrivals.{Left, left_in}
 use Rattle.flymon_engine.specs.Boards.{Board, Rules}
@@ -32,7 +32,7 @@ use Rattle.flymon_engine.specs.Messages.{message_of, SendsMessage}
 -- PROFILE names a file
 abbrev pub names_profile : Form → Bool
 names_profile Wrong = false
-names_profile (Replay profile script capture) = not (is_standard profile)
+names_profile (Carry way profile script capture) = not (is_standard profile)
 names_profile (Demo seed count) = false
 
 -- the status of a run that stopped at its texts, or for want of memory
@@ -46,13 +46,13 @@ IsEarly status = ⊥
 -- the profile, the script and the capture's header are valid
 abbrev pub HasOpened : Form → Directory → Slots → Type 0
 HasOpened Wrong directory slots = ⊥
-HasOpened (Replay profile script capture) directory slots = (setup : Profile) × (commands : List Command) × Opens profile script capture directory slots setup commands
+HasOpened (Carry way profile script capture) directory slots = (setup : Profile) × (commands : List Command) × Opens profile script capture directory slots setup commands
 HasOpened (Demo seed count) directory slots = Unit {0}
 
 -- and the registers have the shape of the profile
 abbrev pub HasShaped : Form → Seen → Type 0
 HasShaped Wrong after = ⊥
-HasShaped (Replay profile script capture) after = (setup : Profile) × (commands : List Command)
+HasShaped (Carry way profile script capture) after = (setup : Profile) × (commands : List Command)
     × Opens profile script capture after.directory after.slots setup commands × (after.dims ≡ dims_of setup.shape)
 HasShaped (Demo seed count) after = after.dims ≡ dims_of standard_profile.shape
 
@@ -62,27 +62,27 @@ FailsDevice form after = (HasOpened form after.directory after.slots × (after.d
 
 abbrev pub HasBadProfile : Form → Directory → Slots → Type 0
 HasBadProfile Wrong directory slots = ⊥
-HasBadProfile (Replay profile script capture) directory slots = (fault : ProfileFault) × StopsFiles profile script capture directory slots (refusals.Profile fault)
+HasBadProfile (Carry way profile script capture) directory slots = (fault : ProfileFault) × StopsFiles profile script capture directory slots (refusals.Profile fault)
 HasBadProfile (Demo seed count) directory slots = ⊥
 
 -- the profile is valid, and the script is not
 abbrev pub HasBadScript : Form → Directory → Slots → Type 0
 HasBadScript Wrong directory slots = ⊥
-HasBadScript (Replay profile script capture) directory slots = (fault : ScriptFault) × StopsFiles profile script capture directory slots (refusals.Script fault)
+HasBadScript (Carry way profile script capture) directory slots = (fault : ScriptFault) × StopsFiles profile script capture directory slots (refusals.Script fault)
 HasBadScript (Demo seed count) directory slots = ⊥
 
 -- profile and script are valid, and the capture's header is not
 abbrev pub HasBadHeader : Form → Directory → Slots → Type 0
 HasBadHeader Wrong directory slots = ⊥
-HasBadHeader (Replay profile script capture) directory slots = (fault : CaptureFault) × StopsFiles profile script capture directory slots (refusals.Header fault)
+HasBadHeader (Carry way profile script capture) directory slots = (fault : CaptureFault) × StopsFiles profile script capture directory slots (refusals.Header fault)
 HasBadHeader (Demo seed count) directory slots = ⊥
 
 -- a file failed in the opening, at its place, or the capture behind its header
 abbrev pub FailsInPlace : Form → Directory → Slots → ℕ → Type 0
 FailsInPlace Wrong directory slots last = ⊥
-FailsInPlace (Replay profile script capture) directory slots last =
+FailsInPlace (Carry way profile script capture) directory slots last =
     ((file : File) × (last ≡ number_of file) × FailsAt profile script directory slots file)
-    ⊎ ((last ≡ 2) × HasOpened (Replay profile script capture) directory slots)
+    ⊎ ((last ≡ 2) × HasOpened (Carry way profile script capture) directory slots)
 FailsInPlace (Demo seed count) directory slots last = ⊥
 
 -- where the capture and the registers are told: the whole script, up to the damage, was sent, made and left
@@ -96,7 +96,7 @@ pub record IsWhole (rules : Rules) (lays : Board → Contents → Type 0) (profi
   pub registers : lays (finished rules (going rules (beginning profile left) (works_of commands))).board cells
 
 -- the script was carried out to its end, or to this damage of the capture
-pub record GoesReplay (rules : Rules) (lays : Board → Contents → Type 0) (profile script capture : List ℕ) (damage : Option CaptureFault)
+pub record GoesFiles (rules : Rules) (lays : Board → Contents → Type 0) (profile script capture : List ℕ) (damage : Option CaptureFault)
     (before after : Seen) : Type 0 where
   pub setup : Profile
   pub commands : List Command
@@ -118,7 +118,7 @@ DemoGoes rules lays seed count (Some fault) before after = after.cells ≡ None
 
 abbrev pub GoesAll : Rules → (Board → Contents → Type 0) → Form → Option CaptureFault → Seen → Seen → Type 0
 GoesAll rules lays Wrong damage before after = ⊥
-GoesAll rules lays (Replay profile script capture) damage before after = GoesReplay rules lays profile script capture damage before after
+GoesAll rules lays (Carry way profile script capture) damage before after = GoesFiles rules lays profile script capture damage before after
 GoesAll rules lays (Demo seed count) damage before after = DemoGoes rules lays seed count damage before after
 
 -- the header is bad, or the script meets a damage
@@ -129,7 +129,7 @@ IsDamaged rules lays form before after =
 -- of names that are not there at most that of the file was attached that failed last
 abbrev pub FailsByName : Form → Directory → ℕ → ℕ → ℕ → Type 0
 FailsByName Wrong directory last before now = ⊥
-FailsByName (Replay profile script capture) directory last before now =
+FailsByName (Carry way profile script capture) directory last before now =
     (file : File) × (last ≡ number_of file) × StraysBy (word_for profile script capture file) directory before now
 FailsByName (Demo seed count) directory last before now = ⊥
 
@@ -150,5 +150,5 @@ IsOfDemo status = Unit {0}
 -- a demo leaves all meanings of the handed-in files
 abbrev pub LeavesFiles : Form → Status → Seen → Seen → Type 0
 LeavesFiles Wrong status before after = Unit {0}
-LeavesFiles (Replay profile script capture) status before after = Unit {0}
+LeavesFiles (Carry way profile script capture) status before after = Unit {0}
 LeavesFiles (Demo seed count) status before after = FilesStay before after × IsOfDemo status

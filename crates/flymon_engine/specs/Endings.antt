@@ -4,8 +4,11 @@ use Rattle.outside.specs.Faults.{Rose}
 use Rattle.outside.specs.Told.{Told, Stays}
 use Rattle.fm_io.specs.Slots.{Cursor, Slots}
 use Rattle.fm_io.specs.Names.{Directory}
+use Rattle.fm_io.specs.declared.traits.Files.{Ghosts as FilesGhosts}
+use Rattle.fm_io.specs.declared.traits.Sink.{Ghosts as SinkGhosts}
 use Rattle.reg_file.specs.Registers.{Contents, Dims}
 use Rattle.reg_file.specs.declared.traits.Call.{Call}
+use Rattle.reg_file.specs.declared.traits.RegFile.{Ghosts as RegGhosts}
 use Rattle.sw_profile.specs.declared.profiles.Profile.{Profile}
 use Rattle.task_lang.specs.declared.commands.Command.{Command}
 use Rattle.flymon_engine.specs.declared.status.Status.{Status}
@@ -16,7 +19,7 @@ use Rattle.flymon_engine.specs.declared.stop.Refusal.{Refusal}
 use Rattle.flymon_engine.specs.declared.stop.Refusal.TheVariants as refusals
 use Rattle.flymon_engine.specs.declared.stop.Stop.{Stop}
 use Rattle.flymon_engine.specs.declared.stop.Stop.TheVariants.{Opening, Carrying}
-use Rattle.flymon_engine.specs.Words.{Form, Wrong, Replay, Demo}
+use Rattle.flymon_engine.specs.Words.{Form, Wrong, Carry, Demo}
 use Rattle.flymon_engine.specs.Works.{works_of}
 use Rattle.flymon_engine.specs.Causes.{HasCause}
 use Rattle.flymon_engine.specs.Arrivals.{Left, left_in}
@@ -82,6 +85,25 @@ pub record Seen : Type 0 where
   pub out : ℕ
   pub sent : Option (List ℕ)
 
+-- what these registers and this output show, beside files that show so much
+abbrev pub seen_beside : {R O : Type 0} → RegGhosts R → SinkGhosts O → (files last strays : ℕ) → Directory → Slots → R → O → Seen
+seen_beside r o files last strays directory slots regs out = record {
+  files = files;
+  last = last;
+  strays = strays;
+  directory = directory;
+  slots = slots;
+  regs = r.faults regs;
+  dims = r.dims regs;
+  cells = r.contents regs;
+  calls = r.calls regs;
+  out = o.faults out;
+  sent = o.sent out;
+}
+
+abbrev pub seen : {F R O : Type 0} → FilesGhosts F → RegGhosts R → SinkGhosts O → F → R → O → Seen
+seen f r o files regs out = seen_beside r o (f.faults files) (f.last files) (f.strays files) (f.directory files) (f.slots files) regs out
+
 -- ---- a run that stopped at its opening
 
 -- nothing was written, and no operation made
@@ -103,9 +125,9 @@ pub record StopsReading (profile script capture : List ℕ) (refusal : Refusal) 
   pub cause : HasInputCause before.files after.files after.last refusal
   pub names : KeepsNames profile script capture after.directory before.strays after.strays refusal
 
-abbrev pub StopsReplay : (profile script capture : List ℕ) → Refusal → Seen → Seen → Type 0
-StopsReplay profile script capture refusals.Device before after = StopsRegisters profile script capture before after
-StopsReplay profile script capture refusal before after = StopsReading profile script capture refusal before after
+abbrev pub StopsOpening : (profile script capture : List ℕ) → Refusal → Seen → Seen → Type 0
+StopsOpening profile script capture refusals.Device before after = StopsRegisters profile script capture before after
+StopsOpening profile script capture refusal before after = StopsReading profile script capture refusal before after
 
 -- all meanings of the handed-in files are as they were
 pub record FilesStay (before after : Seen) : Type 0 where
@@ -124,7 +146,7 @@ StopsDemo refusal before after = ⊥
 -- Usage comes exactly where the words are no form
 abbrev pub IsRefused : Form → Refusal → Seen → Seen → Type 0
 IsRefused Wrong refusal before after = (refusal ≡ refusals.Usage) × StraysStay after.directory before.strays after.strays
-IsRefused (Replay profile script capture) refusal before after = StopsReplay profile script capture refusal before after
+IsRefused (Carry way profile script capture) refusal before after = StopsOpening profile script capture refusal before after
 IsRefused (Demo seed count) refusal before after = FilesStay before after × StopsDemo refusal before after
 
 pub record Refuses (form : Form) (refusal : Refusal) (before after : Seen) : Type 0 where
@@ -152,7 +174,7 @@ pub record Carried {T : Type 0} (rules : Rules) (lays : Board → Contents → T
   pub operations : Told (λ old now. now ≡ (finished rules end).calls) before.calls after.calls
   pub registers : lays (finished rules end).board cells
 
-pub record CarriesReplay {T : Type 0} (rules : Rules) (lays : Board → Contents → Type 0) (profile script capture : List ℕ)
+pub record CarriesFiles {T : Type 0} (rules : Rules) (lays : Board → Contents → Type 0) (profile script capture : List ℕ)
     (before after : Seen) (result : Result T Halt) : Type 0 where
   pub setup : Profile
   pub commands : List Command
@@ -183,7 +205,7 @@ pub record CarriesDemo {T : Type 0} (rules : Rules) (lays : Board → Contents �
 
 abbrev pub Carries : {T : Type 0} → Rules → (Board → Contents → Type 0) → Form → Seen → Seen → Result T Halt → Type 0
 Carries rules lays Wrong before after result = ⊥
-Carries rules lays (Replay profile script capture) before after result = CarriesReplay rules lays profile script capture before after result
+Carries rules lays (Carry way profile script capture) before after result = CarriesFiles rules lays profile script capture before after result
 Carries rules lays (Demo seed count) before after result = CarriesDemo rules lays seed count before after result
 
 pub record Halts (rules : Rules) (lays : Board → Contents → Type 0) (form : Form) (halt : Halt) (before after : Seen) : Type 0 where

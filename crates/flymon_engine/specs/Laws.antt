@@ -1,5 +1,9 @@
 -- What is true of runs.
 use Rattle.std.specs.Prelude.{◌≡◌, ℕ, Bool, true, List, [], ◌∷◌, ◌++◌, map, take, filter, Result}
+use Rattle.std.specs.List.{All}
+use Rattle.addr_translate.specs.Geometry.{IsGeometry}
+use Rattle.reg_file.specs.Calls.{is_on}
+use Rattle.switch_model.specs.Laws.{IsProper}
 use Rattle.std.specs.Str.{bytes_eq}
 use Rattle.readout.specs.declared.requests.Ask as asks
 use Rattle.readout.specs.declared.requests.Request.TheVariants.{Task}
@@ -14,8 +18,9 @@ use Rattle.flymon_engine.specs.ChangeLines.{change_of}
 use Rattle.flymon_engine.specs.Runs.{Run, taken_by, step, carried, lines_of}
 use Rattle.flymon_engine.specs.Stops.{Ends}
 use Rattle.flymon_engine.specs.Going.{AgreesBy}
-use Rattle.flymon_engine.specs.Endings.{beginning}
+use Rattle.flymon_engine.specs.Endings.{beginning, finished}
 use Rattle.flymon_engine.specs.Serial.{serial_rules}
+use Rattle.flymon_engine.specs.Flight.{flight_rules}
 
 -- Where nothing fails a run ends as the whole script does, at its damage or without; a fault leaves a front of its text.
 abbrev pub EndsAsTheScript : Type 0
@@ -61,3 +66,24 @@ AnswersAlone = (one two : Profile) (left_one left_two : Left) (works_one works_t
     → one.key ≡ two.key
     → own_history name one (beginning one left_one) works_one ≡ own_history name two (beginning two left_two) works_two
     → lines_after one left_one works_one name ask ≡ lines_after two left_two works_two name ask
+
+-- ---- packets in flight
+
+-- a task that is added is one that there may be
+abbrev pub IsProperWork : Work → Type 0
+IsProperWork (Take count) = Unit {0}
+IsProperWork (Change change) = IsProper (change_of change)
+IsProperWork (Ask request) = Unit {0}
+
+-- two runs wrote the same, have the same tasks and the same packets left, and made the same operations on each array in the
+-- same order
+pub record AreAlike (one two : Run) : Type 0 where
+  pub text : one.text ≡ two.text
+  pub tasks : one.board.records ≡ two.board.records
+  pub left : one.left ≡ two.left
+  pub calls : (array : ℕ) → filter (is_on array) one.calls ≡ filter (is_on array) two.calls
+
+-- What a run does with packets before different groups at once is what it does with one packet after another.
+abbrev pub FlightIsSerial : Type 0
+FlightIsSerial = (profile : Profile) (left : Left) (works : List Work) → IsGeometry profile.shape → All IsProperWork works
+    → AreAlike (finished flight_rules (carried flight_rules (beginning profile left) works)) (finished serial_rules (carried serial_rules (beginning profile left) works))

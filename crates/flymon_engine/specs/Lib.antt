@@ -15,4 +15,8 @@ pub mod Endings
 pub mod Clauses
 pub mod ChangeLines
 pub mod Serial
+pub mod Flight
+pub mod Pipelined
+pub mod Ways
+pub mod Schedules
 pub mod Laws

@@ -65,7 +65,7 @@ abbrev pub script_words : ScriptFault → List ℕ
 script_words fault = decimal fault.line ++ (codes ": " ++ line_words fault.kind)
 
 abbrev pub refusal_words : Refusal → List ℕ
-refusal_words refusals.Usage = codes "usage: flymon replay PROFILE SCRIPT CAPTURE | flymon demo SEED COUNT\n"
+refusal_words refusals.Usage = codes "usage: flymon replay PROFILE SCRIPT CAPTURE | flymon demo SEED COUNT | flymon flight PROFILE SCRIPT CAPTURE\n"
 refusal_words (refusals.Profile fault) = codes "bad profile: " ++ (fault_text fault ++ codes "\n")
 refusal_words (refusals.Script fault) = codes "bad script line " ++ script_words fault
 refusal_words (refusals.Header fault) = codes "bad capture: " ++ fault_words fault

@@ -19,17 +19,17 @@ use Rattle.flymon_engine.specs.declared.stop.File.{File}
 use Rattle.flymon_engine.specs.declared.stop.File.TheVariants as files
 use Rattle.flymon_engine.specs.declared.stop.Refusal.{Refusal}
 use Rattle.flymon_engine.specs.declared.stop.Refusal.TheVariants as refusals
-use Rattle.flymon_engine.specs.Words.{Form, Wrong, Replay, Demo}
+use Rattle.flymon_engine.specs.Words.{Form, Wrong, Carry, Demo}
 use Rattle.flymon_engine.specs.Arrivals.{Left, left_in}
 
 abbrev pub form_view : Option Asked → Form
 form_view None = Wrong
-form_view (Some (asked.Replay names)) = Replay names.profile.now names.script.now names.capture.now
+form_view (Some (asked.Carry way names)) = Carry way names.profile.now names.script.now names.capture.now
 form_view (Some (asked.Demo seed count)) = Demo seed count
 
 -- a demo of a million packets or fewer
 abbrev pub IsWithinDemo : Asked → Type 0
-IsWithinDemo (asked.Replay names) = Unit {0}
+IsWithinDemo (asked.Carry way names) = Unit {0}
 IsWithinDemo (asked.Demo seed count) = count ≤ 1000000
 
 -- PROFILE `-` is the standard profile, and no file
@@ -87,7 +87,7 @@ FailsAt profile script directory slots files.Profile = (is_standard profile ≡ 
 FailsAt profile script directory slots files.Script = HasProfile profile directory slots × IsWithin 1048576 slots.script
 FailsAt profile script directory slots files.Capture = IsValid profile script directory slots × IsWithin 23 slots.capture
 
--- what stopped a replay before its registers were shaped
+-- what stopped a run over files before its registers were shaped
 abbrev pub StopsFiles : (profile script capture : List ℕ) → Directory → Slots → Refusal → Type 0
 StopsFiles profile script capture directory slots (refusals.Profile fault) =
     (is_standard profile ≡ false) × Reads profile directory slots.profile (λ text. profile_in text ≡ Err fault)

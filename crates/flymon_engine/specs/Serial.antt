@@ -5,6 +5,8 @@ use Rattle.addr_translate.specs.Geometry.{IsGeometry, greatest_bits}
 use Rattle.pipe_core.specs.Rules.{IsShaped}
 use Rattle.pkt_headers.specs.declared.packets.Packet.{Packet}
 use Rattle.reg_file.specs.Registers.{Contents, Dims}
+use Rattle.reg_file.specs.declared.traits.Call.{Call}
+use Rattle.reg_file.specs.declared.traits.DeviceFault.{DeviceFault}
 use Rattle.readout.specs.declared.requests.Request.{Request}
 use Rattle.readout.specs.declared.requests.Request.TheVariants as requests
 use Rattle.readout.specs.declared.refusals as refusals
@@ -13,18 +15,20 @@ use Rattle.switch_model.specs.Records.{Record, outlines}
 use Rattle.switch_model.specs.Changes.{Edit, Refusal, judged, changed}
 use Rattle.switch_model.specs.Packets.{join, calls_of, Layout}
 use Rattle.rule_txn.specs.Switch.{SwitchState}
+use Rattle.rule_txn.specs.Fills.{Refills}
 use Rattle.rule_txn.specs.Seen.{StandsFor, parts_shown, view_of}
 use Rattle.flymon_engine.specs.declared.serial.Serial.{Serial}
 use Rattle.flymon_engine.specs.declared.work.Change.{Change}
 use Rattle.flymon_engine.specs.Boards.{Board, Move, Verdict, Accepted, Refused, Rules}
 use Rattle.flymon_engine.specs.ChangeLines.{change_of, done_line, denied_line}
+use Rattle.flymon_engine.specs.Moves.{Changes}
 
 -- nothing changes, and no operation is made
 abbrev pub stayed : Board → Move
 stayed board = record { board = board; calls = [] }
 
 abbrev pub with_records : Board → List Record → Board
-with_records board records = record { profile = board.profile; records = records }
+with_records board records = record { profile = board.profile; records = records; flying = board.flying }
 
 -- a packet joins the tasks whose filters it matches, with an operation in each of their rows
 abbrev pub packet_move : Board → Packet → Move
@@ -89,6 +93,12 @@ pub record IsSerial (switch : SwitchState) (board : Board) (cells : Contents) : 
   pub geometry : switch.geometry ≡ board.profile.shape
   pub hash_key : switch.hash_key ≡ board.profile.key
   pub stands : StandsFor switch board.records cells
+
+-- a change that fills registers so, of a switch that stands for a board, is one of the rules: whatever the registers hold
+abbrev pub EditsTo : SwitchState → SwitchState → Change → Result ArrayString DeviceFault → Option (List Call) → Option (List Call) → Type 0
+EditsTo before after change result list new_list = (board : Board) (old new : Contents)
+    → Refills (judged before.geometry before.outlines (change_of change)) result old new
+    → IsSerial before board old → Changes serial_rules (IsSerial after) board change result list new_list new
 
 abbrev pub StandsSerial : Serial → Board → Contents → Type 0
 StandsSerial serial board cells = IsSerial serial.switch board cells

@@ -4,11 +4,13 @@ use Rattle.std.specs.declared.string.String.{String}
 use Rattle.std.specs.declared.alloc.Global.{Global}
 use Rattle.std.specs.Str.{bytes_eq}
 use Rattle.key_mask.specs.Numbers.{number_in}
+use Rattle.flymon_engine.specs.declared.words.Way.{Way}
+use Rattle.flymon_engine.specs.declared.words.Way.TheVariants.{Replay, Flight}
 
 -- what the words ask for
 pub data Form : Type 0 where
   Wrong : Form
-  Replay : (profile script capture : List ℕ) → Form
+  Carry : (way : Way) (profile script capture : List ℕ) → Form
   Demo : (seed count : ℕ) → Form
 
 -- 1 to 20 decimal digits of a number of 64 bits
@@ -24,12 +26,20 @@ demo_by (Some seed) (Some count) = Demo seed count
 demo_by (Some seed) None = Wrong
 demo_by None count = Wrong
 
+-- one packet after another, or packets before different groups at once
+abbrev pub way_in : List ℕ → Option Way
+way_in word = cond (bytes_eq word (codes "replay")) (Some Replay) (cond (bytes_eq word (codes "flight")) (Some Flight) None)
+
+abbrev pub carry_by : Option Way → (profile script capture : List ℕ) → Form
+carry_by (Some way) profile script capture = Carry way profile script capture
+carry_by None profile script capture = Wrong
+
 abbrev pub form_of : List (List ℕ) → Form
 form_of [] = Wrong
 form_of (word ∷ []) = Wrong
 form_of (word ∷ seed ∷ []) = Wrong
 form_of (word ∷ seed ∷ count ∷ []) = cond (bytes_eq word (codes "demo")) (demo_by (seed_in seed) (count_in count)) Wrong
-form_of (word ∷ profile ∷ script ∷ capture ∷ []) = cond (bytes_eq word (codes "replay")) (Replay profile script capture) Wrong
+form_of (word ∷ profile ∷ script ∷ capture ∷ []) = carry_by (way_in word) profile script capture
 form_of (word ∷ profile ∷ script ∷ capture ∷ more ∷ words) = Wrong
 
 abbrev pub texts_of : List (String Global) → List (List ℕ)

@@ -8,6 +8,7 @@ pub mod laws;
 mod lines;
 mod machine;
 mod opening;
+mod pipelined;
 mod report;
 mod serial;
 mod status;

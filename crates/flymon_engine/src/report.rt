@@ -34,7 +34,7 @@ fn refusal_line(refusal: Refusal) -> Line
     let mut line = Line::new();
     match refusal {
         Refusal::Usage => line.push_str(
-            "usage: flymon replay PROFILE SCRIPT CAPTURE | flymon demo SEED COUNT\n",
+            "usage: flymon replay PROFILE SCRIPT CAPTURE | flymon demo SEED COUNT | flymon flight PROFILE SCRIPT CAPTURE\n",
         ),
         Refusal::Profile(fault) => {
             line.push_str("bad profile: ");

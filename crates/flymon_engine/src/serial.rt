@@ -1,5 +1,5 @@
 //! A switch as a machine: each packet passes through all groups before the next.
-ghost use Rattle.std.specs.Prelude.{◌≡◌, ◌≤◌, Ok, Err, Some, None, MatchResult};
+ghost use Rattle.std.specs.Prelude.{◌≡◌, ◌≤◌, Ok, Err, Some, None, MatchResult, IsErrOf};
 ghost use Rattle.std.specs.Option.{option_map};
 ghost use Rattle.outside.specs.Faults.{Rose, HasCause};
 ghost use Rattle.outside.specs.Told.{Told, Stays};
@@ -7,9 +7,11 @@ ghost use Rattle.reg_file.specs.Registers.{Dims, Contents};
 ghost use Rattle.sketch_defs.specs.Tasks.{first_fault};
 ghost use Rattle.rule_txn.specs.Changes.{add_cause, resize_cause, release_cause};
 ghost use Rattle.flymon_engine.specs.Boards.{Board};
-ghost use Rattle.flymon_engine.specs.ChangeLines.{refusal_of, Tells};
+ghost use Rattle.switch_model.specs.Changes.{judged};
+ghost use Rattle.rule_txn.specs.Fills.{Refills};
+ghost use Rattle.flymon_engine.specs.ChangeLines.{change_of, refusal_of, Tells};
 ghost use Rattle.flymon_engine.specs.Moves.{WasTold, Changes, Answers};
-ghost use Rattle.flymon_engine.specs.Serial.{serial_rules, serial_lays, FitsSerial, StandsSerial};
+ghost use Rattle.flymon_engine.specs.Serial.{serial_rules, serial_lays, FitsSerial, IsSerial, EditsTo, StandsSerial};
 
 use crate::change_lines::{Reason, line_denied, line_done};
 use crate::machine::{AskFault, Machine, StartFail};
@@ -66,6 +68,30 @@ impl Machine for Serial {
 
     fn finish<R: RegFile>(self, regs: &mut R) {
         let _ = &regs;
+        self.close();
+    }
+
+    fn pass<R: RegFile>(&mut self, regs: &mut R, packet: &Packet) {
+        self.switch.packet(regs, packet);
+    }
+
+    fn change<R: RegFile>(&mut self, regs: &mut R, change: &Change) -> Result<Line, DeviceFault> {
+        self.edit(regs, change)
+    }
+
+    fn ask<R: RegFile, O: Sink>(
+        &mut self,
+        regs: &mut R,
+        request: &Request,
+        out: &mut O,
+    ) -> Result<Option<Line>, AskFault> {
+        self.answer(regs, request, out)
+    }
+}
+
+impl Serial {
+    /// Gives the switch up.
+    pub(crate) fn close(self) {
         let Serial {
             switch,
             reader: _,
@@ -74,11 +100,22 @@ impl Machine for Serial {
         switch.close();
     }
 
-    fn pass<R: RegFile>(&mut self, regs: &mut R, packet: &Packet) {
-        self.switch.packet(regs, packet);
-    }
-
-    fn change<R: RegFile>(&mut self, regs: &mut R, change: &Change) -> Result<Line, DeviceFault> {
+    /// Carries out a change, or refuses it, and answers the line that says so.
+    pub(crate) fn edit<R: RegFile>(
+        &mut self,
+        regs: &mut R,
+        change: &Change,
+    ) -> Result<Line, DeviceFault>
+        requires { FitsSerial self.old (R.dims regs.old) }
+        ensures fits { FitsSerial self.new (R.dims regs.new) }
+        ensures geometry { self.new.switch.geometry ≡ self.old.switch.geometry }
+        ensures hash_key { self.new.switch.hash_key ≡ self.old.switch.hash_key }
+        ensures dims { R.dims regs.new ≡ R.dims regs.old }
+        ensures cause { HasCause (R.faults regs.old) (R.faults regs.new) result }
+        ensures fills { Told (Refills (judged self.old.switch.geometry self.old.switch.outlines (change_of change.now)) result)
+            (R.contents regs.old) (R.contents regs.new) }
+        ensures edits { EditsTo self.old.switch self.new.switch change.now result (R.calls regs.old) (R.calls regs.new) }
+    {
         // For its clause on the limits.
         let _ = self.switch.shape();
         match change {
@@ -104,12 +141,26 @@ impl Machine for Serial {
         }
     }
 
-    fn ask<R: RegFile, O: Sink>(
+    /// Sends the lines of an answer; or sends nothing, and answers the line of a refusal.
+    pub(crate) fn answer<R: RegFile, O: Sink>(
         &mut self,
         regs: &mut R,
         request: &Request,
         out: &mut O,
-    ) -> Result<Option<Line>, AskFault> {
+    ) -> Result<Option<Line>, AskFault>
+        requires { FitsSerial self.old (R.dims regs.old) }
+        ensures fits { FitsSerial self.new (R.dims regs.new) }
+        ensures switch { self.new.switch ≡ self.old.switch }
+        ensures dims { R.dims regs.new ≡ R.dims regs.old }
+        ensures later { O.faults out.old ≤ O.faults out.new }
+        ensures regs_later { R.faults regs.old ≤ R.faults regs.new }
+        ensures device { IsErrOf result AskFault.Device → Rose (R.faults regs.old) (R.faults regs.new) }
+        ensures write { IsErrOf result AskFault.Write → Rose (O.faults out.old) (O.faults out.new) }
+        ensures contents { Stays (R.contents regs.old) (R.contents regs.new) }
+        ensures calls { Stays (R.calls regs.old) (R.calls regs.new) }
+        ensures sent { (board : Board) → Told (λ old new. IsSerial self.old.switch board old
+            → Answers request.now (serial_rules.answer board request.now) result (O.sent out.old) (O.sent out.new)) (R.contents regs.old) (R.contents regs.new) }
+    {
         // For its clauses on what the view is.
         let _ = self.switch.shape();
         match request {

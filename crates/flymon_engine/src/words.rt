@@ -1,12 +1,12 @@
 //! The words of the command line.
 ghost use Rattle.std.specs.Prelude.{◌≡◌, ◌≤◌, length, IfSome};
 ghost use Rattle.key_mask.specs.Numbers.{digits_after};
-ghost use Rattle.flymon_engine.specs.Words.{form_of, texts_of, demo_by, seed_in, count_in};
+ghost use Rattle.flymon_engine.specs.Words.{form_of, texts_of, way_in, demo_by, seed_in, count_in};
 ghost use Rattle.flymon_engine.specs.Opening.{form_view, IsWithinDemo};
 
 use key_mask::number_of;
 
-/// The three names of `replay PROFILE SCRIPT CAPTURE`.
+/// The names of the three files of a run.
 #[derive(Clone, Copy)]
 pub(crate) struct Names<'a> {
     pub profile: &'a str,
@@ -14,10 +14,17 @@ pub(crate) struct Names<'a> {
     pub capture: &'a str,
 }
 
+/// How packets pass: one after another, or before different groups at once.
+#[derive(Clone, Copy, Debug, PartialEq, Eq)]
+pub(crate) enum Way {
+    Replay,
+    Flight,
+}
+
 /// What the words ask for.
 #[derive(Clone, Copy)]
 pub(crate) enum Asked<'a> {
-    Replay(Names<'a>),
+    Carry { way: Way, names: Names<'a> },
     Demo { seed: u64, count: u32 },
 }
 
@@ -31,13 +38,26 @@ pub(crate) fn asked_of(words: &[String]) -> Option<Asked<'_>>
 {
     match words {
         [word, seed, count] if word.as_str() == "demo" => demo_of(seed, count),
-        [word, profile, script, capture] if word.as_str() == "replay" => {
-            Some(Asked::Replay(Names {
+        [word, profile, script, capture] => {
+            let way = way_of(word)?;
+            let names = Names {
                 profile: profile.as_str(),
                 script: script.as_str(),
                 capture: capture.as_str(),
-            }))
+            };
+            Some(Asked::Carry { way, names })
         }
+        _ => None,
+    }
+}
+
+/// The way that this word names.
+fn way_of(word: &str) -> Option<Way>
+    ensures { result ≡ way_in word.now }
+{
+    match word {
+        "replay" => Some(Way::Replay),
+        "flight" => Some(Way::Flight),
         _ => None,
     }
 }

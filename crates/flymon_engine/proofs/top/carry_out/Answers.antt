@@ -6,7 +6,7 @@ use Rattle.flymon_engine.specs.declared.stop.Halt.{Halt}
 use Rattle.flymon_engine.specs.declared.stop.Stop.{Stop}
 use Rattle.flymon_engine.specs.Causes.{HasCause}
 use Rattle.flymon_engine.specs.Opening.{Opens}
-use Rattle.flymon_engine.specs.Words.{Replay}
+use Rattle.flymon_engine.specs.Words.{Carry}
 use Rattle.flymon_engine.specs.Endings.{Seen, Promises}
 use Rattle.flymon_engine.proofs.EndLemmas.{carried_on, promises_carried, cause_of_run, err_holds}
 use Rattle.fm_io.proofs.SlotLemmas.{slot_then}
