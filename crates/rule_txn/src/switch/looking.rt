@@ -4,11 +4,12 @@ ghost use Rattle.outside.specs.Faults.{HasCause};
 ghost use Rattle.addr_translate.specs.Geometry.{IsGeometry, array_count, greatest_bits};
 ghost use Rattle.reg_file.specs.Reads.{OnlyReads};
 ghost use Rattle.pipe_core.specs.Rules.{IsPipe, IsShaped};
+ghost use Rattle.pipe_core.specs.Flow.{stages_in};
 ghost use Rattle.readout.specs.PlacedTasks.{task_in, place_in, no_place, live_bits, frozen_bits, IsPlaced, block_of, HasSide, IsFit, AreWithin, register_at};
 ghost use Rattle.switch_model.specs.Sights.{all_held, all_spots, all_uses};
 ghost use Rattle.switch_model.specs.Soundness.{Sound};
 ghost use Rattle.rule_txn.specs.State.{there};
-ghost use Rattle.rule_txn.specs.Switch.{pool_for, placed_table, tables_for, groups_for};
+ghost use Rattle.rule_txn.specs.Switch.{pool_for, placed_table, tables_for, groups_for, rules_for};
 ghost use Rattle.rule_txn.specs.Seen.{PassesOver, placed_row, view_of};
 
 use super::Switch;
@@ -70,6 +71,7 @@ impl Switch {
         ensures hash_key { result.now.hash_key ≡ self.now.hash_key }
         ensures tables { map placed_table result.now.tables ≡ tables_for self.now.geometry (all_spots self.now.outlines) }
         ensures groups { result.now.groups ≡ groups_for self.now.geometry (all_uses self.now.geometry self.now.outlines) }
+        ensures acts { stages_in result.now ≡ stages_in (rules_for self.now) }
     {
         let pipe = self.stage.pipe();
         // For its clause `whole`.
