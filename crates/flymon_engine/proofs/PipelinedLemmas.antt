@@ -3,7 +3,7 @@ use Rattle.std.proofs.Common.{◌≡◌, ℕ, ◌+◌, ◌<◌, ◌≤◌, suc, 
 use Rattle.std.specs.List.{All}
 use Rattle.std.proofs.lemmas.List.{append-nil, append_assoc}
 use Rattle.outside.specs.Told.{Told, Grows}
-use Rattle.outside.proofs.ToldLemmas.{grows_then}
+use Rattle.outside.proofs.ToldLemmas.{grows_none, grows_then, stays_same}
 use Rattle.addr_translate.specs.Geometry.{Geometry, group_number}
 use Rattle.pkt_headers.specs.declared.packets.Packet.{Packet}
 use Rattle.reg_file.specs.declared.traits.Call.{Call}
@@ -31,7 +31,7 @@ use Rattle.sw_profile.specs.declared.profiles.Profile.{Profile}
 use Rattle.flymon_engine.specs.declared.pipelined.Pipelined.{Pipelined}
 use Rattle.flymon_engine.specs.Boards.{Aloft, Board, Move}
 use Rattle.flymon_engine.specs.Moves.{Moves}
-use Rattle.flymon_engine.specs.Serial.{serial_lays, IsSerial}
+use Rattle.flymon_engine.specs.Serial.{stayed, serial_lays, IsSerial}
 use Rattle.flymon_engine.specs.Flight as model
 use Rattle.flymon_engine.specs.Flight.{with_flying, and_then, advanced, advanced_below, entered, settled, kept_now, is_present, is_kept, calls_left, calls_at, passed_at}
 use Rattle.flymon_engine.specs.Pipelined.{alofts, versions_of, IsPipeOf, IsAirborne, FitsPipelined}
@@ -174,4 +174,64 @@ commits pipe before switch flying new_flying board old new calls list new_list o
       };
       made = subst (λ cs. Grows list cs new_list)
           (made.0 ∙ sym (old_calls rules old flying order.old_first) ∙ sym (ap (λ fs. calls_left (filter is_kept fs)) air.flying)) grew;
+    }
+
+-- ---- each packet in flight passes a group
+
+-- so far, down to the groups below `left`
+pub record GoesDown (rules : Versions Packet) (switch : SwitchState) (flying : List (Flying Packet)) (board : Board) (count left : ℕ) (list new_list : Option (List Call)) (contents : Contents) : Type 0 where
+  pub so_far : Move
+  pub moves : Moves (IsAirborne rules switch flying) so_far list new_list contents
+  pub whole : and_then so_far (advanced_below left) ≡ advanced_below count board
+
+pub goes_first : (rules : Versions Packet) (switch : SwitchState) (flying : List (Flying Packet)) (board : Board) (count : ℕ) (list : Option (List Call)) (contents : Contents)
+    → IsAirborne rules switch flying board contents → GoesDown rules switch flying board count count list list contents
+goes_first rules switch flying board count list contents air = record {
+  so_far = stayed board;
+  moves = record { stood = air; made = grows_none list list (stays_same list) };
+  whole = refl;
+}
+
+abbrev a_move : Board → List Call → Move
+a_move board calls = record { board = board; calls = calls }
+
+pub goes_on : (rules : Versions Packet) (switch : SwitchState) (flying new_flying : List (Flying Packet)) (board : Board) (count left : ℕ) (list mid_list new_list : Option (List Call)) (old new : Contents)
+    → GoesDown rules switch flying board count (suc left) list mid_list old
+    → ((b : Board) → IsAirborne rules switch flying b old → Moves (IsAirborne rules switch new_flying) (advanced left b) mid_list new_list new)
+    → GoesDown rules switch new_flying board count left list new_list new
+goes_on rules switch flying new_flying board count left list mid_list new_list old new goes step =
+    let here = step goes.so_far.board goes.moves.stood in
+    let next = advanced left goes.so_far.board in
+    record {
+      so_far = and_then goes.so_far (advanced left);
+      moves = record { stood = here.stood; made = grows_then list mid_list new_list goes.so_far.calls next.calls goes.moves.made here.made };
+      whole = ap (a_move (advanced_below left next.board).board) (append_assoc goes.so_far.calls next.calls (advanced_below left next.board).calls) ∙ goes.whole;
+    }
+
+pub goes_last : (rules : Versions Packet) (switch : SwitchState) (flying : List (Flying Packet)) (board : Board) (count : ℕ) (list new_list : Option (List Call)) (contents : Contents)
+    → GoesDown rules switch flying board count 0 list new_list contents → Moves (IsAirborne rules switch flying) (advanced_below count board) list new_list contents
+goes_last rules switch flying board count list new_list contents goes =
+    subst (λ move. Moves (IsAirborne rules switch flying) move list new_list contents)
+    (ap (a_move goes.so_far.board) (sym (append-nil goes.so_far.calls)) ∙ goes.whole) goes.moves
+
+-- ---- the calls of the machine
+
+pub passes : (pipe before new_before : pipes.Rules) (switch : SwitchState) (packet : Packet) (flying mid_flying new_flying : List (Flying Packet)) (board : Board) (old new : Contents) (list new_list : Option (List Call))
+    → IsPipeOf pipe switch → new_before ≡ before → new_flying ≡ mid_flying ++ entering no_carries packet ∷ []
+    → (IsAirborne (versions pipe before) switch flying board old → Moves (IsAirborne (versions pipe before) switch mid_flying) (advanced_below (group_count pipe) board) list new_list new)
+    → IsAirborne (versions_of switch before) switch flying board old
+    → Moves (IsAirborne (versions_of switch new_before) switch new_flying) (model.flight_pass board packet) list new_list new
+passes pipe before new_before switch packet flying mid_flying new_flying board old new list new_list of kept flew moves air =
+    let are = versions_are pipe before switch of in
+    let count : group_count pipe ≡ length board.profile.shape.groups = ap (λ (g : Geometry). length g.groups) (of.geometry ∙ air.serial.geometry) in
+    let went : Moves (IsAirborne (versions pipe before) switch mid_flying) (advanced_below (length board.profile.shape.groups) board) list new_list new =
+        subst (λ n. Moves (IsAirborne (versions pipe before) switch mid_flying) (advanced_below n board) list new_list new) count
+        (moves (subst (λ v. IsAirborne v switch flying board old) (sym are) air)) in
+    let below = advanced_below (length board.profile.shape.groups) board in
+    record {
+      stood = subst (λ fs. IsAirborne (versions_of switch new_before) switch fs (entered packet below.board).board new) (sym flew)
+          (subst (λ b. IsAirborne (versions_of switch b) switch (mid_flying ++ entering no_carries packet ∷ []) (entered packet below.board).board new) (sym kept)
+          (subst (λ v. IsAirborne v switch (mid_flying ++ entering no_carries packet ∷ []) (entered packet below.board).board new) are
+          (enters pipe before switch packet mid_flying below.board new of went.stood)));
+      made = subst (λ cs. Grows list cs new_list) (sym (append-nil below.calls)) went.made;
     }
