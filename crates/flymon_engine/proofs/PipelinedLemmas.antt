@@ -1,9 +1,11 @@
 -- Packets pass, enter and settle as the rules of a flight say.
-use Rattle.std.proofs.Common.{◌≡◌, ℕ, ◌+◌, ◌<◌, ◌≤◌, suc, zero, List, [], ◌∷◌, ◌++◌, length, map, filter, Option, None, Some, refl, ap, ap₂, sym, ◌∙◌, subst, arith}
+use Rattle.std.proofs.Common.{◌≡◌, ◌≢◌, Bool, true, false, cond, ℕ, ◌+◌, ◌<◌, ◌≤◌, suc, zero, List, [], ◌∷◌, ◌++◌, length, map, filter, Option, None, Some, refl, ap, ap₂, sym, ◌∙◌, subst, arith}
+use Rattle.std.specs.Prelude.{◌==◌}
 use Rattle.std.specs.List.{All}
 use Rattle.std.proofs.lemmas.List.{append-nil, append_assoc}
-use Rattle.outside.specs.Told.{Told, Grows}
-use Rattle.outside.proofs.ToldLemmas.{grows_none, grows_then, stays_same}
+use Rattle.std.proofs.lemmas.List.Elements.{All-nil, All-cons, All-append, All-weaker}
+use Rattle.outside.specs.Told.{Told, Stays, Grows}
+use Rattle.outside.proofs.ToldLemmas.{grows_none, grows_then, grows_stays, stays_same}
 use Rattle.addr_translate.specs.Geometry.{Geometry, group_number}
 use Rattle.pkt_headers.specs.declared.packets.Packet.{Packet}
 use Rattle.reg_file.specs.declared.traits.Call.{Call}
@@ -21,7 +23,7 @@ use Rattle.pipe_flight.specs.States.{versions, group_count, MovesOn, moved_with}
 use Rattle.pipe_flight.proofs.DrainLemmas.{BothStaged, drain_append, enter_drain}
 use Rattle.pipe_flight.proofs.CommitLemmas.{commit_drained}
 use Rattle.pipe_flight.proofs.MoveLemmas.{both_staged, count_same}
-use Rattle.pipe_flight.proofs.OrderLemmas.{falls_here, falls_above, old_split, all_present}
+use Rattle.pipe_flight.proofs.OrderLemmas.{falls_wider, falls_back, falls_here, falls_above, old_split, all_present}
 use Rattle.switch_model.specs.Packets.{join, calls_of, Layout}
 use Rattle.rule_txn.specs.Switch.{SwitchState, rules_for}
 use Rattle.rule_txn.specs.Seen.{StandsFor}
@@ -123,6 +125,51 @@ advances_none pipe before switch group flying board contents nobody air =
       serial = serial_flying switch board (passed_at shape group board.flying) (drain rules contents flying) air.serial;
     },
     ap (calls_at shape group) air.flying ∙ nobody_calls shape group rules contents flying nobody)
+
+pub moves_none : (pipe before : pipes.Rules) (switch : SwitchState) (group : ℕ) (flying : List (Flying Packet)) (board : Board) (contents : Contents) (list : Option (List Call))
+    → NobodyAt group flying → IsAirborne (versions pipe before) switch flying board contents
+    → Moves (IsAirborne (versions pipe before) switch flying) (advanced group board) list list contents
+moves_none pipe before switch group flying board contents list nobody air =
+    let none = advances_none pipe before switch group flying board contents nobody air in
+    record { stood = none.0; made = subst (λ cs. Grows list cs list) (sym none.1) (grows_none list list (stays_same list)) }
+
+-- an advance of the flight, where the registers are told
+pub advance_told : (pipe before : pipes.Rules) (switch : SwitchState) (group : ℕ) (flying new_flying : List (Flying Packet)) (contents new_contents : Option Contents) (list new_list : Option (List Call))
+    → SameShape before pipe → IsFlight (group_count before) flying → switch.geometry ≡ pipe.geometry
+    → MovesOn (versions pipe before) group flying new_flying contents new_contents list new_list
+    → Told (λ old new. drain (versions pipe before) new new_flying ≡ drain (versions pipe before) old flying) contents new_contents
+    → Told (λ old new. (board : Board) → IsAirborne (versions pipe before) switch flying board old
+        → Moves (IsAirborne (versions pipe before) switch new_flying) (advanced group board) list new_list new) contents new_contents
+advance_told pipe before switch group flying new_flying None None list new_list same order shape m drains = tt
+advance_told pipe before switch group flying new_flying (Some old) None list new_list same order shape m drains = tt
+advance_told pipe before switch group flying new_flying None (Some new) list new_list same order shape m drains = absurd drains
+advance_told pipe before switch group flying new_flying (Some old) (Some new) list new_list same order shape m drains =
+    λ board air. advances_one pipe before switch group flying new_flying board old new list new_list same order shape m drains air
+
+falls_under : (high : ℕ) (flying : List (Flying Packet)) → Falls high flying → All (λ (f : Flying Packet). f.group < high) flying
+falls_under high [] falls = All-nil (λ (f : Flying Packet). f.group < high)
+falls_under high (one ∷ flying) falls =
+    All-cons (λ (f : Flying Packet). f.group < high) one flying falls.0 (falls_under high flying (falls_wider one.group high flying (omega (arith, falls.0)) falls.1))
+
+-- nobody is left before the group
+pub left_behind : (rules : Versions Packet) (high group : ℕ) (flying new_flying : List (Flying Packet)) (contents new_contents : Option Contents) (list new_list : Option (List Call))
+    → Falls high flying → MovesOn rules group flying new_flying contents new_contents list new_list → NobodyAt group new_flying
+left_behind rules high group flying new_flying contents new_contents list new_list falls m =
+    let N : Flying Packet → Type 0 = λ f. f.group ≢ group in
+    let fell : Falls high (m.front ++ m.one ∷ m.back) = subst (Falls high) m.split falls in
+    let here = m.here in
+    let next = moved_with m.one m.outs in
+    subst (NobodyAt group) (sym m.new_split)
+    (All-append N m.front (orders.if_left rules.count next ++ m.back)
+    (All-weaker (λ (f : Flying Packet). m.one.group + 1 ≤ f.group) N (λ f le e. omega (arith, le, e, here)) m.front (falls_above high m.front m.one m.back fell))
+    (All-append N (orders.if_left rules.count next) m.back
+    (by (next.group == rules.count) (λ e. omega (arith, e, here)))
+    (All-weaker (λ (f : Flying Packet). f.group < m.one.group) N (λ f less e. omega (arith, less, e, here)) m.back
+    (falls_under m.one.group m.back (falls_back high m.front (m.one ∷ m.back) fell).1))))
+  where
+    by : (b : Bool) → (m.one.group + 1 ≢ group) → NobodyAt group (cond b [] (moved_with m.one m.outs ∷ []))
+    by true away = All-nil (λ (f : Flying Packet). f.group ≢ group)
+    by false away = All-cons (λ (f : Flying Packet). f.group ≢ group) (moved_with m.one m.outs) [] away (All-nil (λ (f : Flying Packet). f.group ≢ group))
 
 -- ---- a packet enters
 
@@ -234,4 +281,20 @@ passes pipe before new_before switch packet flying mid_flying new_flying board o
           (subst (λ v. IsAirborne v switch (mid_flying ++ entering no_carries packet ∷ []) (entered packet below.board).board new) are
           (enters pipe before switch packet mid_flying below.board new of went.stood)));
       made = subst (λ cs. Grows list cs new_list) (sym (append-nil below.calls)) went.made;
+    }
+
+-- a read-out, or the end: all packets pass first
+pub asks : (pipe before new_before : pipes.Rules) (switch new_switch : SwitchState) (flying new_flying : List (Flying Packet)) (board : Board) (old new : Contents)
+    (calls : List Call) (list mid_list new_list : Option (List Call)) → IsPipeOf pipe switch → new_switch ≡ switch → new_flying ≡ []
+    → Grows list calls mid_list → (calls ≡ drained (versions pipe before) old flying) × (new ≡ all_made old calls) → Stays mid_list new_list
+    → IsAirborne (versions_of switch before) switch flying board old
+    → Moves (IsAirborne (versions_of new_switch new_before) new_switch new_flying) (settled board) list new_list new
+asks pipe before new_before switch new_switch flying new_flying board old new calls list mid_list new_list of same landed grew made stays air =
+    let went = settles (versions pipe before) switch flying board old new calls list mid_list grew made
+        (subst (λ v. IsAirborne v switch flying board old) (sym (versions_are pipe before switch of)) air) in
+    record {
+      stood = subst (λ s. IsAirborne (versions_of s new_before) s new_flying (settled board).board new) (sym same)
+          (subst (λ fs. IsAirborne (versions_of switch new_before) switch fs (settled board).board new) (sym landed)
+          (record { flying = refl; serial = went.stood.1 }));
+      made = grows_stays list mid_list new_list (settled board).calls went.made stays;
     }
