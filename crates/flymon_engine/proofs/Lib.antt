@@ -11,3 +11,9 @@ pub mod IsolationLemmas
 pub mod WordValues
 pub mod SerialLemmas
 pub mod Values
+pub mod AloftLemmas
+pub mod AheadLemmas
+pub mod AlikeLemmas
+pub mod FlightLemmas
+pub mod RefillLemmas
+pub mod ScheduleLemmas
