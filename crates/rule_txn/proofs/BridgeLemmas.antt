@@ -37,7 +37,7 @@ rules_stand all state records contents stand for = record {
 }
 
 -- the registers stand for the tasks with the packet
-joins : (state : SwitchState) (records : List Record) (packet : Packet) (contents : Contents) → StandsFor state records contents
+pub joins : (state : SwitchState) (records : List Record) (packet : Packet) (contents : Contents) → StandsFor state records contents
     → StandsFor state (join packet records) (all_made contents (calls_of state.geometry state.hash_key packet records))
 joins state records packet contents for = record {
   sound = subst (Sound state.geometry) (sym (join_same packet records)) for.sound;
