@@ -35,6 +35,7 @@ use Rattle.flymon_engine.specs.declared.stop.Refusal.{Refusal}
 use Rattle.flymon_engine.specs.declared.stop.Refusal.TheVariants as refusals
 use Rattle.flymon_engine.specs.declared.stop.Stop.{Stop}
 use Rattle.flymon_engine.specs.declared.stop.Stop.TheVariants.{Opening, Carrying}
+use Rattle.flymon_engine.specs.declared.words.Way.TheVariants.{Replay}
 use Rattle.flymon_engine.specs.Words.{Demo, Carry}
 use Rattle.flymon_engine.specs.Works.{works_of}
 use Rattle.flymon_engine.specs.Causes.{HasCause}
@@ -248,7 +249,7 @@ halts_demo f0 st0 m last before after halts.Output e0 e1 same cause = (cause, λ
 pub demo_promises : CapturesAreWhole → (r : Rules) (lays : Board → Contents → Type 0) (seed count : ℕ) → count ≤ 1000000
     → (s n f0 l0 st0 m l : ℕ) (d0 : Directory) (slots0 : Slots) (given : List (Option Place)) (before after : Seen) (ending : Result (Unit {0}) Stop)
     → d0 ≡ directory_in seed count → DirectoryStays d0 (directory_in s n) → f0 ≡ 0 → st0 ≡ 0 → FilesStay before after
-    → Promises {T = Unit {0}} r lays (Replay (codes "-") (codes "script") (codes "capture")) ending
+    → Promises {T = Unit {0}} r lays (Carry Replay (codes "-") (codes "script") (codes "capture")) ending
     (beside before f0 l0 st0 d0 slots0) (beside after m l m (directory_in s n) (slots_in s n given))
     → Promises {T = Unit {0}} r lays (Demo seed count) ending before after
 demo_promises whole r lays seed count few s n f0 l0 st0 m l d0 slots0 given before after (Ok x) is directory e0 e1 stays promises =

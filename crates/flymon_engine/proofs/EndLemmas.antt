@@ -26,6 +26,7 @@ use Rattle.flymon_engine.specs.Boards.{Board, Rules, no_tasks}
 use Rattle.flymon_engine.specs.Moves.{Moves, WasTold}
 use Rattle.flymon_engine.specs.Runs.{Run}
 use Rattle.flymon_engine.specs.Works.{works_of}
+use Rattle.flymon_engine.specs.declared.words.Way.{Way}
 use Rattle.flymon_engine.specs.Words.{Form, Carry}
 use Rattle.flymon_engine.specs.Worlds.{Before, WhereTold, IsAt, EndsAt}
 use Rattle.flymon_engine.specs.Messages.{SendsMessage}
@@ -72,11 +73,11 @@ carried_on rules stands0 stands1 lays profile reading before after result comman
     }
 
 -- the promises of a run whose commands were carried out, or stopped
-pub promises_carried : (rules : Rules) (lays : Board → Contents → Type 0) (profile script capture : List ℕ) (before after : Seen) (result : Result (Unit {0}) Halt)
+pub promises_carried : (rules : Rules) (lays : Board → Contents → Type 0) (way : Way) (profile script capture : List ℕ) (before after : Seen) (result : Result (Unit {0}) Halt)
     → ((halt : Halt) → result ≡ Err halt → HasCause before.files after.files after.last before.regs after.regs before.out after.out halt)
     → CarriesFiles rules lays profile script capture before after result → Promises rules lays (Carry way profile script capture) (carried_as result) before after
-promises_carried rules lays profile script capture before after (Ok x) cause carried = carried
-promises_carried rules lays profile script capture before after (Err halt) cause carried = record { cause = cause halt refl; carried = carried }
+promises_carried rules lays way profile script capture before after (Ok x) cause carried = carried
+promises_carried rules lays way profile script capture before after (Err halt) cause carried = record { cause = cause halt refl; carried = carried }
 
 -- a fault of the commands is one of the run
 pub cause_of_run : (halt : Halt) (f0 f1 f2 last r0 r1 r2 r3 o0 o1 : ℕ) → f0 ≤ f1 → r0 ≤ r1 → r3 ≡ r2

@@ -10,6 +10,9 @@ pub mod DemoLemmas
 pub mod IsolationLemmas
 pub mod WordValues
 pub mod SerialLemmas
+pub mod FlyingLemmas
+pub mod PipelinedLemmas
+pub mod ChangeLemmas
 pub mod Values
 pub mod AloftLemmas
 pub mod AheadLemmas

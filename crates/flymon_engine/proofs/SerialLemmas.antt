@@ -41,7 +41,7 @@ use Rattle.flymon_engine.specs.Works.{IsFilling, IsReading}
 use Rattle.flymon_engine.specs.Moves as moves
 use Rattle.flymon_engine.specs.Moves.{Moves, Changes}
 use Rattle.flymon_engine.specs.ChangeLines.{change_of, done_line, denied_line, Tells}
-use Rattle.flymon_engine.specs.Serial.{serial_rules, with_records, change_verdict, denied_request, request_verdict, answer_on, state_of, FitsSerial, IsSerial}
+use Rattle.flymon_engine.specs.Serial.{serial_rules, with_records, change_verdict, denied_request, request_verdict, answer_on, state_of, FitsSerial, IsSerial, EditsTo}
 use Rattle.flymon_engine.specs.declared.machine.AskFault.{AskFault}
 use Rattle.flymon_engine.specs.declared.machine.AskFault.TheVariants as faults
 use Rattle.readout.specs.declared.faults.ReadFault.{ReadFault}
@@ -281,17 +281,51 @@ serial_counted switch cells sent0 sent1 made result sends told board =
 
 -- ---- calls of the switch
 
--- what a change that was carried out by this call leaves
-pub serial_changed : {T F : Type 0} (cause : F → Option Refusal) (board : Board) (change asked : Change) → change ≡ asked → (made : Result T F)
-    (result : Result ArrayString DeviceFault) (before after : SwitchState) (old new : Contents) (calls0 calls1 : Option (List Call))
-    → IsGeometry before.geometry → IsProper (change_of asked) → ((fault : F) → cause fault ≡ None → IsFilling asked)
-    → Answers cause (judged before.geometry before.outlines (change_of asked)) made before after
-    → Refills (judged before.geometry before.outlines (change_of asked)) made old new → Stays calls0 calls1 → Says cause change made result
-    → IsSerial before board old → Changes serial_rules (IsSerial after) board change result calls0 calls1 new
-serial_changed cause board change asked is made result before after old new calls0 calls1 limits proper filling answers refills stays says serial =
-    subst (λ c. Changes serial_rules (IsSerial after) board c result calls0 calls1 new) (sym is)
-    (serial_change cause board asked made result before after old new calls0 calls1 limits proper filling answers refills stays
-    (subst (λ c. Says cause c made result) is says) serial)
+-- how a change ended tells of the registers what its line does
+fills_to : {T F : Type 0} (cause : F → Option Refusal) (change : Change) (v : Result Edit Refusal) (made : Result T F) (result : Result ArrayString DeviceFault)
+    (before after : SwitchState) (old new : Contents) → Answers cause v made before after → Says cause change made result → Refills v made old new → Refills v result old new
+fills_to cause change (Ok edit) (Ok t) (Ok line) before after old new is says fills = fills
+fills_to cause change (Ok edit) (Ok t) (Err e) before after old new is says fills = absurd says
+fills_to cause change (Ok edit) (Err fault) (Ok line) before after old new is says fills = absurd (subst (λ why. Tells why change (Ok line)) is.0 says)
+fills_to cause change (Ok edit) (Err fault) (Err e) before after old new is says fills = fills
+fills_to cause change (Err why) made result before after old new is says fills = fills
+
+fills_from : {T F : Type 0} (cause : F → Option Refusal) (change : Change) (v : Result Edit Refusal) (made : Result T F) (result : Result ArrayString DeviceFault)
+    (before after : SwitchState) (old new : Contents) → Answers cause v made before after → Says cause change made result → Refills v result old new → Refills v made old new
+fills_from cause change (Ok edit) (Ok t) (Ok line) before after old new is says fills = fills
+fills_from cause change (Ok edit) (Ok t) (Err e) before after old new is says fills = absurd says
+fills_from cause change (Ok edit) (Err fault) (Ok line) before after old new is says fills = absurd (subst (λ why. Tells why change (Ok line)) is.0 says)
+fills_from cause change (Ok edit) (Err fault) (Err e) before after old new is says fills = fills
+fills_from cause change (Err why) made result before after old new is says fills = fills
+
+-- a change that was carried out by this call filled the registers so
+pub serial_fills : {T F : Type 0} (cause : F → Option Refusal) (change asked : Change) → change ≡ asked → (made : Result T F) (result : Result ArrayString DeviceFault)
+    (before after : SwitchState) (old new : Contents) → Answers cause (judged before.geometry before.outlines (change_of asked)) made before after → Says cause change made result
+    → Refills (judged before.geometry before.outlines (change_of asked)) made old new → Refills (judged before.geometry before.outlines (change_of change)) result old new
+serial_fills cause change asked is made result before after old new answers says fills =
+    subst (λ c. Refills (judged before.geometry before.outlines (change_of c)) result old new) (sym is)
+    (fills_to cause change (judged before.geometry before.outlines (change_of asked)) made result before after old new answers says fills)
+
+-- and is one of the rules
+pub serial_edits : {T F : Type 0} (cause : F → Option Refusal) (change asked : Change) → change ≡ asked → (made : Result T F) (result : Result ArrayString DeviceFault)
+    (before after : SwitchState) (calls0 calls1 : Option (List Call)) → IsGeometry before.geometry → IsProper (change_of asked) → ((fault : F) → cause fault ≡ None → IsFilling asked)
+    → Answers cause (judged before.geometry before.outlines (change_of asked)) made before after → Stays calls0 calls1 → Says cause change made result
+    → EditsTo before after change result calls0 calls1
+serial_edits cause change asked is made result before after calls0 calls1 limits proper filling answers stays says =
+    subst (λ c. EditsTo before after c result calls0 calls1) (sym is)
+    (record {
+      geometry = shape.0;
+      hash_key = shape.1;
+      over = λ board old new fills serial.
+          serial_change cause board asked made result before after old new calls0 calls1 limits proper filling answers
+          (fills_from cause asked (judged before.geometry before.outlines (change_of asked)) made result before after old new answers told fills) stays told serial;
+    })
+  where
+    shape : (after.geometry ≡ before.geometry) × (after.hash_key ≡ before.hash_key)
+    shape = same_shape cause (judged before.geometry before.outlines (change_of asked)) made before after answers
+
+    told : Says cause asked made result
+    told = subst (λ c. Says cause c made result) is says
 
 not_filled : (value : ℕ) (cells : Contents) → Refilled [] value cells cells
 not_filled value cells = record {

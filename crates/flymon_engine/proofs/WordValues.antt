@@ -2,7 +2,8 @@
 use Rattle.std.proofs.Common.{◌≡◌, [], ◌∷◌, refl}
 use Rattle.std.specs.Prelude.{codes}
 use Rattle.key_mask.specs.Numbers.{number_in}
-use Rattle.flymon_engine.specs.Words.{Wrong, Replay, Demo, form_of}
+use Rattle.flymon_engine.specs.declared.words.Way.TheVariants.{Replay, Flight}
+use Rattle.flymon_engine.specs.Words.{Wrong, Carry, Demo, form_of}
 
 most : form_of (codes "demo" ∷ codes "18446744073709551615" ∷ codes "1000000" ∷ []) ≡ Demo 18446744073709551615 1000000
 unfolding number_in
@@ -40,5 +41,11 @@ empty = refl
 one_word_more : form_of (codes "demo" ∷ codes "0" ∷ codes "1" ∷ codes "1" ∷ []) ≡ Wrong
 one_word_more = refl
 
-replayed : form_of (codes "replay" ∷ codes "-" ∷ codes "S" ∷ codes "C" ∷ []) ≡ Replay (codes "-") (codes "S") (codes "C")
+replayed : form_of (codes "replay" ∷ codes "-" ∷ codes "S" ∷ codes "C" ∷ []) ≡ Carry Replay (codes "-") (codes "S") (codes "C")
 replayed = refl
+
+flown : form_of (codes "flight" ∷ codes "-" ∷ codes "S" ∷ codes "C" ∷ []) ≡ Carry Flight (codes "-") (codes "S") (codes "C")
+flown = refl
+
+other_word : form_of (codes "fly" ∷ codes "-" ∷ codes "S" ∷ codes "C" ∷ []) ≡ Wrong
+other_word = refl

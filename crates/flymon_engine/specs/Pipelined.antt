@@ -1,12 +1,13 @@
 -- A switch with packets in flight, as a machine.
-use Rattle.std.specs.Prelude.{◌≡◌, ℕ, List, [], ◌∷◌, length}
+use Rattle.std.specs.Prelude.{◌≡◌, ℕ, List, [], ◌∷◌, length, map}
 use Rattle.pipe_core.specs.Flow.{stages_in}
 use Rattle.pipe_core.specs.Rules as pipes
 use Rattle.pipe_flight.specs.Flights.{Flying, Versions, rest_of, drain}
 use Rattle.pkt_headers.specs.declared.packets.Packet.{Packet}
 use Rattle.reg_file.specs.Registers.{Contents, Dims}
 use Rattle.reg_file.specs.Calls.{all_made}
-use Rattle.rule_txn.specs.Switch.{SwitchState, rules_for}
+use Rattle.switch_model.specs.Sights.{all_spots, all_uses}
+use Rattle.rule_txn.specs.Switch.{SwitchState, placed_table, tables_for, groups_for, rules_for}
 use Rattle.flymon_engine.specs.declared.pipelined.Pipelined.{Pipelined}
 use Rattle.flymon_engine.specs.Boards.{Aloft, Board}
 use Rattle.flymon_engine.specs.Serial.{FitsSerial, IsSerial}
@@ -24,10 +25,13 @@ alofts rules contents (one ∷ others) = aloft rules contents one ∷ alofts rul
 abbrev pub versions_of : SwitchState → pipes.Rules → Versions Packet
 versions_of switch before = record { count = length switch.geometry.groups; now = stages_in (rules_for switch); old = stages_in before }
 
--- the pipe makes of each packet what the switch makes of it
-pub record ActsFor (pipe : pipes.Rules) (switch : SwitchState) : Type 0 where
+-- the pipe is that of a switch in this state
+pub record IsPipeOf (pipe : pipes.Rules) (switch : SwitchState) : Type 0 where
+  pub whole : pipes.IsPipe pipe
   pub geometry : pipe.geometry ≡ switch.geometry
   pub hash_key : pipe.hash_key ≡ switch.hash_key
+  pub tables : map placed_table pipe.tables ≡ tables_for switch.geometry (all_spots switch.outlines)
+  pub groups : pipe.groups ≡ groups_for switch.geometry (all_uses switch.geometry switch.outlines)
   pub acts : stages_in pipe ≡ stages_in (rules_for switch)
 
 -- the board has these packets in flight, and the registers will be laid out for it when they have passed

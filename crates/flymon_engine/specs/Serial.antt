@@ -94,11 +94,13 @@ pub record IsSerial (switch : SwitchState) (board : Board) (cells : Contents) : 
   pub hash_key : switch.hash_key ≡ board.profile.key
   pub stands : StandsFor switch board.records cells
 
--- a change that fills registers so, of a switch that stands for a board, is one of the rules: whatever the registers hold
-abbrev pub EditsTo : SwitchState → SwitchState → Change → Result ArrayString DeviceFault → Option (List Call) → Option (List Call) → Type 0
-EditsTo before after change result list new_list = (board : Board) (old new : Contents)
-    → Refills (judged before.geometry before.outlines (change_of change)) result old new
-    → IsSerial before board old → Changes serial_rules (IsSerial after) board change result list new_list new
+-- a change, whatever the registers hold and however they are filled as it says: where the switch stood for a board, it is
+-- one of the rules
+pub record EditsTo (before after : SwitchState) (change : Change) (result : Result ArrayString DeviceFault) (list new_list : Option (List Call)) : Type 0 where
+  pub geometry : after.geometry ≡ before.geometry
+  pub hash_key : after.hash_key ≡ before.hash_key
+  pub over : (board : Board) (old new : Contents) → Refills (judged before.geometry before.outlines (change_of change)) result old new
+      → IsSerial before board old → Changes serial_rules (IsSerial after) board change result list new_list new
 
 abbrev pub StandsSerial : Serial → Board → Contents → Type 0
 StandsSerial serial board cells = IsSerial serial.switch board cells

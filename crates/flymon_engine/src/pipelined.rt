@@ -11,7 +11,7 @@ ghost use Rattle.flymon_engine.specs.Boards.{Board};
 ghost use Rattle.flymon_engine.specs.Moves.{WasTold, Moves};
 ghost use Rattle.flymon_engine.specs.Serial.{serial_lays};
 ghost use Rattle.flymon_engine.specs.Flight.{advanced_below, flight_rules};
-ghost use Rattle.flymon_engine.specs.Pipelined.{IsAirborne, FitsPipelined, StandsPipelined};
+ghost use Rattle.flymon_engine.specs.Pipelined.{IsPipeOf, IsAirborne, FitsPipelined, StandsPipelined};
 
 use crate::machine::{AskFault, Machine, StartFail};
 use crate::serial::Serial;
@@ -47,7 +47,7 @@ impl Machine for Pipelined {
         regs: &mut R,
     ) -> Result<Pipelined, StartFail> {
         let serial = Serial::start(alloc, profile, regs)?;
-        match Flight::new(alloc, serial.switch.pipe()) {
+        match Flight::new(alloc, pipe_of(&serial)) {
             Ok(flight) => Ok(Pipelined { serial, flight }),
             Err(_) => {
                 serial.close();
@@ -58,19 +58,19 @@ impl Machine for Pipelined {
 
     fn finish<R: RegFile>(self, regs: &mut R) {
         let Pipelined { serial, mut flight } = self;
-        flight.show(serial.switch.pipe(), regs);
+        flight.show(pipe_of(&serial), regs);
         serial.close();
     }
 
     fn pass<R: RegFile>(&mut self, regs: &mut R, packet: &Packet) {
-        advance_all(&mut self.flight, self.serial.switch.pipe(), regs);
+        advance_all(&mut self.flight, pipe_of(&self.serial), regs);
         self.flight.enter(packet);
     }
 
     fn change<R: RegFile>(&mut self, regs: &mut R, change: &Change) -> Result<Line, DeviceFault> {
         // For its clause on the order.
         let _ = self.flight.vacant(0);
-        self.flight.commit(self.serial.switch.pipe(), regs);
+        self.flight.commit(pipe_of(&self.serial), regs);
         self.serial.edit(regs, change)
     }
 
@@ -80,9 +80,16 @@ impl Machine for Pipelined {
         request: &Request,
         out: &mut O,
     ) -> Result<Option<Line>, AskFault> {
-        self.flight.show(self.serial.switch.pipe(), regs);
+        self.flight.show(pipe_of(&self.serial), regs);
         self.serial.answer(regs, request, out)
     }
+}
+
+/// The rules of the switch's tasks.
+fn pipe_of(serial: &Serial) -> &Pipe
+    ensures { IsPipeOf result.now serial.now.switch }
+{
+    serial.switch.pipe()
 }
 
 /// Each packet in flight passes one group, the one before the last group first: nobody is left

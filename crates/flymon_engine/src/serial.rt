@@ -108,8 +108,6 @@ impl Serial {
     ) -> Result<Line, DeviceFault>
         requires { FitsSerial self.old (R.dims regs.old) }
         ensures fits { FitsSerial self.new (R.dims regs.new) }
-        ensures geometry { self.new.switch.geometry ≡ self.old.switch.geometry }
-        ensures hash_key { self.new.switch.hash_key ≡ self.old.switch.hash_key }
         ensures dims { R.dims regs.new ≡ R.dims regs.old }
         ensures cause { HasCause (R.faults regs.old) (R.faults regs.new) result }
         ensures fills { Told (Refills (judged self.old.switch.geometry self.old.switch.outlines (change_of change.now)) result)

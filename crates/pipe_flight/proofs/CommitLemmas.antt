@@ -28,7 +28,7 @@ first_passes rules contents one others = sym (drain_first rules contents one oth
 
 -- ---- a commit: the rules of now become the old ones
 
-kept_rest : {P : Type 0} (rules : Versions P) (next : Stages P) (contents : Contents) (one : Flying P) → one.kept ≡ false → rest_of (committed rules next) contents (kept_now one) ≡ rest_of rules contents one
+pub kept_rest : {P : Type 0} (rules : Versions P) (next : Stages P) (contents : Contents) (one : Flying P) → one.kept ≡ false → rest_of (committed rules next) contents (kept_now one) ≡ rest_of rules contents one
 kept_rest rules next contents one e = ap (λ b. flow (cond b rules.old rules.now) contents one.packet (rules.count - one.group) one.group one.outs) (sym e)
 
 -- where no old packet is left, whatever rules come next

@@ -61,7 +61,7 @@ rest_same Place rules one two flying r same = flow_same Place (stages_of rules f
 pub rest_at : {P : Type 0} (Place : ℕ → ℕ → Type 0) (rules : Versions P) (contents : Contents) (flying : Flying P) → Reaches Place rules flying → AreAt Place (rest_of rules contents flying)
 rest_at Place rules contents flying r = flow_at Place (stages_of rules flying) contents flying.packet (rules.count - flying.group) flying.group flying.outs r.at
 
-same_made : (Place : ℕ → ℕ → Type 0) (calls : List Call) (one two : Contents) → SameAt Place one two → SameAt Place (all_made one calls) (all_made two calls)
+pub same_made : (Place : ℕ → ℕ → Type 0) (calls : List Call) (one two : Contents) → SameAt Place one two → SameAt Place (all_made one calls) (all_made two calls)
 same_made Place calls one two same = record { same = λ a i p. all_made_same calls one two a i (same.same a i p) }
 
 pub drained_same : {P : Type 0} (Place : ℕ → ℕ → Type 0) (rules : Versions P) (one two : Contents) (flight : List (Flying P)) → All (Reaches Place rules) flight → SameAt Place one two → drained rules one flight ≡ drained rules two flight

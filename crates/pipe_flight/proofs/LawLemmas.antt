@@ -153,7 +153,7 @@ packet_calls {P} group_of run front one back is fine split =
 pub enter_drain : {P : Type 0} → DrainsEntered P
 enter_drain rules contents flight none packet = entered_drain rules contents flight none packet
 
-olds_reach : {P : Type 0} (rules : Versions P) (fill : Fill) (flight : List (Flying P)) → All (λ (one : Flying P). one.kept ≡ true) flight → Avoids rules.old fill
+pub olds_reach : {P : Type 0} (rules : Versions P) (fill : Fill) (flight : List (Flying P)) → All (λ (one : Flying P). one.kept ≡ true) flight → Avoids rules.old fill
     → All (Reaches (λ a i. fill.test a i ≡ false) rules) flight
 olds_reach rules fill [] olds avoids = All-nil (Reaches (λ a i. fill.test a i ≡ false) rules)
 olds_reach {P} rules fill (one ∷ flight) olds avoids =

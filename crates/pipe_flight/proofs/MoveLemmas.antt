@@ -190,7 +190,7 @@ seen_below waiting before state now group at one s = subst (λ n. one.group < n)
 
 -- ---- the drain after an advance
 
-both_staged : (now before : Rules) → now.geometry ≡ before.geometry → BothStaged (group_number now.geometry) (versions now before)
+pub both_staged : (now before : Rules) → now.geometry ≡ before.geometry → BothStaged (group_number now.geometry) (versions now before)
 both_staged now before e = record { now = staged now; old = subst (λ (g : Geometry). AreStaged (group_number g) (stages_in before)) (sym e) (staged before) }
 
 pub drain_kept : (before now : Rules) (group : ℕ) (flight new_flight : List (Flying Packet)) (contents new_contents : Option Contents) (list new_list : Option (List Call)) → SameShape before now → IsFlight (group_count before) flight → MovesOn (versions now before) group flight new_flight contents new_contents list new_list

@@ -7,41 +7,17 @@ use Rattle.flymon_engine.specs.declared.stop.Stop.{Stop}
 use Rattle.flymon_engine.specs.Causes.{HasCause}
 use Rattle.flymon_engine.specs.Opening.{Opens}
 use Rattle.flymon_engine.specs.Words.{Carry}
-use Rattle.flymon_engine.specs.Endings.{Seen, Promises}
+use Rattle.flymon_engine.specs.Endings.{Promises, seen}
 use Rattle.flymon_engine.proofs.EndLemmas.{carried_on, promises_carried, cause_of_run, err_holds}
 use Rattle.fm_io.proofs.SlotLemmas.{slot_then}
 use Rattle.flymon_engine.proofs.FileLemmas.{opens_later, strays_later}
-use Rattle.flymon_engine.proofs.top.replay.Goals as goal
+use Rattle.flymon_engine.proofs.top.carry_out.Goals as goal
 
 pub returns-clause-promises : goal.returns-clause-promises
 returns-clause-promises g c = let r = g.R.RegFile in let f = g.F.Files in let m = g.M.Machine in let o = g.O.Sink in
-    let before : Seen = record {
-      files = f.faults c.args.files.now;
-      last = f.last c.args.files.now;
-      strays = f.strays c.args.files.now;
-      directory = f.directory c.args.files.now;
-      slots = f.slots c.args.files.now;
-      regs = r.faults c.args.regs.now;
-      dims = r.dims c.args.regs.now;
-      cells = r.contents c.args.regs.now;
-      calls = r.calls c.args.regs.now;
-      out = o.faults c.args.out.now;
-      sent = o.sent c.args.out.now;
-    } in
+    let before = seen f r o c.args.files.now c.args.regs.now c.args.out.now in
     let files = c.carry_all-carried.new.files in let regs = c.finish.new.regs in let out = c.carry_all-carried.new.out in
-    let after : Seen = record {
-      files = f.faults files;
-      last = f.last files;
-      strays = f.strays files;
-      directory = f.directory files;
-      slots = f.slots files;
-      regs = r.faults regs;
-      dims = r.dims regs;
-      cells = r.contents regs;
-      calls = r.calls regs;
-      out = o.faults out;
-      sent = o.sent out;
-    } in
+    let after = seen f r o files regs out in
     let names = c.args.names in let opened = c.in-Ok.opened in
     let cause : (halt : Halt) → c.carry_all-carried.result ≡ Err halt → HasCause (f.faults c.args.files.now) (f.faults files) (f.last files) (r.faults c.args.regs.now) (r.faults regs) (o.faults c.args.out.now) (o.faults out) halt =
     λ halt e. cause_of_run halt (f.faults c.args.files.now) (f.faults c.open_files.new.files) (f.faults files) (f.last files) (r.faults c.args.regs.now) (r.faults c.start.new.regs) (r.faults c.carry_all-carried.new.regs) (r.faults regs)
@@ -54,8 +30,8 @@ returns-clause-promises g c = let r = g.R.RegFile in let f = g.F.Files in let m 
     (opens_later names.profile.now names.script.now names.capture.now (f.directory c.open_files.new.files) (f.directory files) (f.slots c.open_files.new.files) (f.slots files)
     opened.profile opened.commands.items c.carry_all-carried.ensures.directory c.carry_all-carried.ensures.others
     (record { attached = attached; cursor = c.carry_all-carried.ensures.cursor }) c.in-Ok.ensures.opens) in
-    subst (λ (x : Result (Unit {0}) Stop). Promises m.rules m.lays (Replay names.profile.now names.script.now names.capture.now) x before after) (sym c.ending.ensures)
-    (promises_carried m.rules m.lays names.profile.now names.script.now names.capture.now before after c.carry_all-carried.result cause (record {
+    λ way. subst (λ (x : Result (Unit {0}) Stop). Promises m.rules m.lays (Carry way names.profile.now names.script.now names.capture.now) x before after) (sym c.ending.ensures)
+    (promises_carried m.rules m.lays way names.profile.now names.script.now names.capture.now before after c.carry_all-carried.result cause (record {
       setup = opened.profile;
       commands = c.deref.result.now;
       opened = opens;

@@ -3,7 +3,7 @@ use Rattle.readout.specs.declared.refusals.Stop.TheVariants as stops
 use Rattle.readout.specs.declared.requests.Request.TheVariants.{Show, Stat}
 use Rattle.flymon_engine.specs.declared.machine.AskFault.TheVariants.{Device, Write}
 use Rattle.flymon_engine.proofs.SerialLemmas.{serial_read, serial_shown, serial_counted, serial_listed}
-use Rattle.flymon_engine.proofs.serial.SerialMachine.ask.Goals as goal
+use Rattle.flymon_engine.proofs.serial.Serial.answer.Goals as goal
 
 pub returns-in-Show-clause-sent : goal.returns-in-Show-clause-sent
 returns-in-Show-clause-sent g c = let r = g.R.RegFile in let o = g.O.Sink in

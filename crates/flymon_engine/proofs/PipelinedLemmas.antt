@@ -1,0 +1,177 @@
+-- Packets pass, enter and settle as the rules of a flight say.
+use Rattle.std.proofs.Common.{◌≡◌, ℕ, ◌+◌, ◌<◌, ◌≤◌, suc, zero, List, [], ◌∷◌, ◌++◌, length, map, filter, Option, None, Some, refl, ap, ap₂, sym, ◌∙◌, subst, arith}
+use Rattle.std.specs.List.{All}
+use Rattle.std.proofs.lemmas.List.{append-nil, append_assoc}
+use Rattle.outside.specs.Told.{Told, Grows}
+use Rattle.outside.proofs.ToldLemmas.{grows_then}
+use Rattle.addr_translate.specs.Geometry.{Geometry, group_number}
+use Rattle.pkt_headers.specs.declared.packets.Packet.{Packet}
+use Rattle.reg_file.specs.declared.traits.Call.{Call}
+use Rattle.reg_file.specs.Registers.{Contents, Dims}
+use Rattle.reg_file.specs.Calls.{all_made}
+use Rattle.pipe_core.specs.Flow.{Stages, flow, stages_in}
+use Rattle.pipe_core.specs.Groups.{no_carries}
+use Rattle.pipe_core.specs.Rules as pipes
+use Rattle.pipe_core.specs.Rules.{SameShape, IsShaped}
+use Rattle.pipe_flight.specs.Flights as flights
+use Rattle.pipe_flight.specs.Flights.{Flying, Versions, entering, calls_next, drained, drain, committed}
+use Rattle.pipe_flight.specs.Orders as orders
+use Rattle.pipe_flight.specs.Orders.{NobodyAt, Falls, IsFlight, is_old}
+use Rattle.pipe_flight.specs.States.{versions, group_count, MovesOn, moved_with}
+use Rattle.pipe_flight.proofs.DrainLemmas.{BothStaged, drain_append, enter_drain}
+use Rattle.pipe_flight.proofs.CommitLemmas.{commit_drained}
+use Rattle.pipe_flight.proofs.MoveLemmas.{both_staged, count_same}
+use Rattle.pipe_flight.proofs.OrderLemmas.{falls_here, falls_above, old_split, all_present}
+use Rattle.switch_model.specs.Packets.{join, calls_of, Layout}
+use Rattle.rule_txn.specs.Switch.{SwitchState, rules_for}
+use Rattle.rule_txn.specs.Seen.{StandsFor}
+use Rattle.rule_txn.proofs.BridgeLemmas.{joins}
+use Rattle.rule_txn.proofs.SwitchRules.{calls_for}
+use Rattle.sw_profile.specs.declared.profiles.Profile.{Profile}
+use Rattle.flymon_engine.specs.declared.pipelined.Pipelined.{Pipelined}
+use Rattle.flymon_engine.specs.Boards.{Aloft, Board, Move}
+use Rattle.flymon_engine.specs.Moves.{Moves}
+use Rattle.flymon_engine.specs.Serial.{serial_lays, IsSerial}
+use Rattle.flymon_engine.specs.Flight as model
+use Rattle.flymon_engine.specs.Flight.{with_flying, and_then, advanced, advanced_below, entered, settled, kept_now, is_present, is_kept, calls_left, calls_at, passed_at}
+use Rattle.flymon_engine.specs.Pipelined.{alofts, versions_of, IsPipeOf, IsAirborne, FitsPipelined}
+use Rattle.flymon_engine.proofs.FlyingLemmas.{calls_left_are, nobody_calls, nobody_passes, advance_calls, advance_alofts, enter_alofts, old_calls, present_alofts}
+
+pub told_both : {A B : Type 0} {R S : A → B → Type 0} (a : Option A) (b : Option B) → Told R a b → Told S a b → Told (λ x y. R x y × S x y) a b
+told_both None None r s = tt
+told_both (Some x) None r s = tt
+told_both None (Some y) r s = absurd r
+told_both (Some x) (Some y) r s = (r, s)
+
+-- ---- the pipe of a switch
+
+-- the rules of now are those of the switch's tasks
+pub versions_are : (pipe before : pipes.Rules) (switch : SwitchState) → IsPipeOf pipe switch → versions pipe before ≡ versions_of switch before
+versions_are pipe before switch of =
+    ap₂ (λ (n : ℕ) (s : Stages Packet). (let v : Versions Packet = record { count = n; now = s; old = stages_in before } in v))
+    (ap (λ (g : Geometry). length g.groups) of.geometry) of.acts
+
+pub same_shape : (machine : Pipelined) (dims : Dims) (pipe : pipes.Rules) → FitsPipelined machine dims → IsPipeOf pipe machine.serial.switch
+    → SameShape machine.flight.before pipe
+same_shape machine dims pipe fits of = record { geometry = fits.geometry ∙ sym of.geometry; hash_key = fits.hash_key ∙ sym of.hash_key }
+
+pub pipe_shaped : (machine : Pipelined) (dims : Dims) (pipe : pipes.Rules) → FitsPipelined machine dims → IsPipeOf pipe machine.serial.switch
+    → IsShaped pipe.geometry dims
+pipe_shaped machine dims pipe fits of = subst (λ g. IsShaped g dims) (sym of.geometry) fits.serial.shaped
+
+-- ---- boards that differ in the packets in flight alone
+
+pub serial_flying : (switch : SwitchState) (board : Board) (flying : List Aloft) (contents : Contents) → IsSerial switch board contents → IsSerial switch (with_flying board flying) contents
+serial_flying switch board flying contents is = record { geometry = is.geometry; hash_key = is.hash_key; stands = is.stands }
+
+pub serial_laid : (switch : SwitchState) (board : Board) (contents : Contents) → IsSerial switch board contents → serial_lays board contents
+serial_laid switch board contents is = subst (λ k. Layout k board.records contents) is.hash_key is.stands.laid
+
+-- ---- all pass to the end
+
+pub settles : (rules : Versions Packet) (switch : SwitchState) (flying : List (Flying Packet)) (board : Board) (old new : Contents) (calls : List Call) (list new_list : Option (List Call))
+    → Grows list calls new_list → (calls ≡ drained rules old flying) × (new ≡ all_made old calls) → IsAirborne rules switch flying board old
+    → Moves (λ b c. (b.flying ≡ []) × IsSerial switch b c) (settled board) list new_list new
+settles rules switch flying board old new calls list new_list grew made air = record {
+  stood = (refl, serial_flying switch board [] new (subst (IsSerial switch board) (sym (made.1 ∙ ap (all_made old) made.0)) air.serial));
+  made = subst (λ cs. Grows list cs new_list) (made.0 ∙ sym (calls_left_are rules old flying) ∙ sym (ap calls_left air.flying)) grew;
+}
+
+-- ---- a packet passes a group
+
+pub advances_one : (pipe before : pipes.Rules) (switch : SwitchState) (group : ℕ) (flying new_flying : List (Flying Packet)) (board : Board) (old new : Contents) (list new_list : Option (List Call))
+    → SameShape before pipe → IsFlight (group_count before) flying → switch.geometry ≡ pipe.geometry
+    → (m : MovesOn (versions pipe before) group flying new_flying (Some old) (Some new) list new_list)
+    → drain (versions pipe before) new new_flying ≡ drain (versions pipe before) old flying
+    → IsAirborne (versions pipe before) switch flying board old
+    → Moves (IsAirborne (versions pipe before) switch new_flying) (advanced group board) list new_list new
+advances_one pipe before switch group flying new_flying board old new list new_list same order shape m drains air =
+    let rules = versions pipe before in
+    let falls : Falls (group_count pipe) (m.front ++ m.one ∷ m.back) = subst (λ n. Falls n (m.front ++ m.one ∷ m.back)) (count_same same) (subst (Falls (group_count before)) m.split order.falls) in
+    let below = falls_here (group_count pipe) m.front m.one m.back falls in
+    let above = falls_above (group_count pipe) m.front m.one m.back falls in
+    let both = both_staged pipe before (sym same.geometry) in
+    let profile : board.profile.shape ≡ pipe.geometry = sym air.serial.geometry ∙ shape in
+    let there : alofts rules old (m.front ++ m.one ∷ m.back) ≡ board.flying = ap (alofts rules old) (sym m.split) ∙ sym air.flying in
+    let is_next : moved_with m.one m.outs ≡ flights.moved_on rules old m.one = ap (moved_with m.one) m.makes.told.1 in
+    let flew : new_flying ≡ m.front ++ (orders.if_left (group_count pipe) (flights.moved_on rules old m.one) ++ m.back) =
+        m.new_split ∙ ap (λ n. m.front ++ (orders.if_left (group_count pipe) n ++ m.back)) is_next in
+    record {
+      stood = record {
+        flying = ap₂ (λ g k. passed_at g k board.flying) profile (sym m.here)
+            ∙ ap (passed_at pipe.geometry m.one.group) (sym there)
+            ∙ sym (advance_alofts pipe before old m.front m.one m.back both below above)
+            ∙ ap₂ (alofts rules) (sym m.makes.told.0) (sym flew);
+        serial = serial_flying switch board (passed_at board.profile.shape group board.flying) (drain rules new new_flying)
+            (subst (IsSerial switch board) (sym drains) air.serial);
+      };
+      made = subst (λ cs. Grows list cs new_list)
+          (sym (ap₂ (λ g k. calls_at g k board.flying) profile (sym m.here) ∙ ap (calls_at pipe.geometry m.one.group) (sym there)
+          ∙ advance_calls pipe before old m.front m.one m.back both below above))
+          m.makes.joined;
+    }
+
+-- nobody does
+pub advances_none : (pipe before : pipes.Rules) (switch : SwitchState) (group : ℕ) (flying : List (Flying Packet)) (board : Board) (contents : Contents)
+    → NobodyAt group flying → IsAirborne (versions pipe before) switch flying board contents
+    → IsAirborne (versions pipe before) switch flying (advanced group board).board contents × ((advanced group board).calls ≡ [])
+advances_none pipe before switch group flying board contents nobody air =
+    let rules = versions pipe before in
+    let shape = board.profile.shape in
+    (record {
+      flying = ap (passed_at shape group) air.flying ∙ nobody_passes shape group rules contents flying nobody;
+      serial = serial_flying switch board (passed_at shape group board.flying) (drain rules contents flying) air.serial;
+    },
+    ap (calls_at shape group) air.flying ∙ nobody_calls shape group rules contents flying nobody)
+
+-- ---- a packet enters
+
+pub enters : (pipe before : pipes.Rules) (switch : SwitchState) (packet : Packet) (flying : List (Flying Packet)) (board : Board) (contents : Contents)
+    → IsPipeOf pipe switch → IsAirborne (versions pipe before) switch flying board contents
+    → IsAirborne (versions pipe before) switch (flying ++ entering no_carries packet ∷ []) (entered packet board).board contents
+enters pipe before switch packet flying board contents of air =
+    let rules = versions pipe before in
+    let after = drain rules contents flying in
+    let calls : flow (stages_in pipe) after packet (group_count pipe) 0 no_carries ≡ calls_of switch.geometry switch.hash_key packet board.records =
+        ap (λ (g : Geometry). flow (stages_in pipe) after packet (length g.groups) 0 no_carries) of.geometry
+        ∙ calls_for pipe switch board.records packet after of.whole of.geometry of.hash_key of.tables of.groups air.serial.stands in
+    record {
+      flying = ap₂ (λ fs cs. fs ++ model.entering cs ∷ []) air.flying
+          (sym (calls ∙ ap₂ (λ g k. calls_of g k packet board.records) air.serial.geometry air.serial.hash_key))
+          ∙ sym (enter_alofts rules contents flying no_carries packet);
+      serial = record {
+        geometry = air.serial.geometry;
+        hash_key = air.serial.hash_key;
+        stands = subst (StandsFor switch (join packet board.records))
+            (sym (enter_drain rules contents flying no_carries packet ∙ ap (all_made after) calls))
+            (joins switch board.records packet after air.serial.stands);
+      };
+    }
+
+-- ---- a commit
+
+pub commits : (pipe before : pipes.Rules) (switch : SwitchState) (flying new_flying : List (Flying Packet)) (board : Board) (old new : Contents) (calls : List Call) (list new_list : Option (List Call))
+    → IsFlight (group_count before) flying → new_flying ≡ map flights.kept_now (filter orders.is_present flying)
+    → Grows list calls new_list → (calls ≡ drained (versions pipe before) old (filter is_old flying)) × (new ≡ all_made old calls)
+    → IsAirborne (versions pipe before) switch flying board old
+    → Moves (IsAirborne (versions pipe pipe) switch new_flying) (model.committed board) list new_list new
+commits pipe before switch flying new_flying board old new calls list new_list order flew grew made air =
+    let rules = versions pipe before in
+    let mid : new ≡ drain rules old (filter is_old flying) = made.1 ∙ ap (all_made old) made.0 in
+    let presents = filter orders.is_present flying in
+    let drains : drain (versions pipe pipe) new new_flying ≡ drain rules old flying =
+        ap₂ (drain (versions pipe pipe)) mid flew
+        ∙ ap (all_made (drain rules old (filter is_old flying))) (commit_drained rules (stages_in pipe) (drain rules old (filter is_old flying)) presents (all_present flying))
+        ∙ sym (drain_append rules old (filter is_old flying) presents)
+        ∙ ap (drain rules old) (sym (old_split flying order.old_first)) in
+    record {
+      stood = record {
+        flying = ap (λ fs. map kept_now (filter is_present fs)) air.flying
+            ∙ sym (present_alofts rules (stages_in pipe) old flying order.old_first)
+            ∙ ap₂ (alofts (versions pipe pipe)) (sym mid) (sym flew);
+        serial = serial_flying switch board (map kept_now (filter is_present board.flying)) (drain (versions pipe pipe) new new_flying)
+            (subst (IsSerial switch board) (sym drains) air.serial);
+      };
+      made = subst (λ cs. Grows list cs new_list)
+          (made.0 ∙ sym (old_calls rules old flying order.old_first) ∙ sym (ap (λ fs. calls_left (filter is_kept fs)) air.flying)) grew;
+    }
