@@ -20,7 +20,7 @@ use Rattle.switch_model.proofs.CallLemmas.{filter_within, made_missed, all_alike
 use Rattle.flymon_engine.specs.Boards.{Aloft}
 use Rattle.flymon_engine.specs.Flight.{is_in, next_calls, later_calls, moved_on, if_left, kept_now, is_kept, is_present, calls_left, calls_at, passed_at}
 use Rattle.flymon_engine.specs.Schedules.{NobodyAt}
-use Rattle.flymon_engine.proofs.AloftLemmas.{Falls, Stand, Stands, falls_here, falls_above, calls_there, passed_there}
+use Rattle.flymon_engine.proofs.AloftLemmas.{Falls, InOrder, Stands, falls_here, falls_above, calls_there, passed_there}
 
 -- on a group from this one on
 abbrev pub From : Geometry → ℕ → ℕ → ℕ → Type 0
@@ -163,13 +163,13 @@ moved_all_ahead geometry front one back ahead =
 -- a register is what the operations on its array make of it
 pub made_by_array : (contents : Contents) (calls : List Call) (array addr : ℕ) → all_made contents calls array addr ≡ all_made contents (filter (is_on array) calls) array addr
 made_by_array contents [] array addr = refl
-made_by_array contents (call ∷ calls) array addr = by (is_on array call) refl
+made_by_array contents (call ∷ calls) array addr = by (made_by_array (made contents call) calls array addr) (is_on array call) refl
   where
-    by : (b : Bool) → is_on array call ≡ b
+    by : all_made (made contents call) calls array addr ≡ all_made (made contents call) (filter (is_on array) calls) array addr → (b : Bool) → is_on array call ≡ b
         → all_made (made contents call) calls array addr ≡ all_made contents (cond b (call ∷ filter (is_on array) calls) (filter (is_on array) calls)) array addr
-    by true e = made_by_array (made contents call) calls array addr
-    by false e =
-        made_by_array (made contents call) calls array addr
+    by rest true e = rest
+    by rest false e =
+        rest
         ∙ all_alike (made contents call) contents (filter (is_on array) calls) array addr
         (ap (λ b. cond (b && call.addr == addr) (new_register call.op (contents array addr)) (contents array addr)) e)
 

@@ -4,12 +4,12 @@ use Rattle.std.specs.List.{All, flat_map, range_with_len}
 use Rattle.std.proofs.lemmas.List.{append-nil}
 use Rattle.std.proofs.lemmas.List.Elements.{All-nil, All-cons, All-append, All-weaker, All-map, filter-append}
 use Rattle.addr_translate.specs.Geometry.{Geometry, array_count, group_number}
+use Rattle.addr_translate.proofs.GeometryLemmas.{ended_below}
 use Rattle.pkt_headers.specs.declared.packets.Packet.{Packet}
 use Rattle.reg_file.specs.declared.traits.Call.{Call}
 use Rattle.reg_file.specs.Calls.{is_on}
 use Rattle.pipe_flight.specs.Schedules.{AreAt}
 use Rattle.sw_profile.specs.declared.profiles.Profile.{Profile}
-use Rattle.rule_txn.proofs.Served.{group_exists}
 use Rattle.switch_model.specs.Records.{Record}
 use Rattle.switch_model.specs.Packets.{all_stands, calls_on, calls_of}
 use Rattle.switch_model.proofs.ListLemmas.{all_back, all_flat}
@@ -20,13 +20,13 @@ use Rattle.flymon_engine.specs.Serial.{packet_move, change_move}
 use Rattle.flymon_engine.specs.Flight.{entering, next_calls, moved_on, if_left, kept_now, is_kept, is_present, calls_left, calls_at, passed_at, with_flying, advanced, entered, settled, flight_change}
 use Rattle.flymon_engine.specs.Schedules.{NobodyAt}
 use Rattle.flymon_engine.proofs.AloftLemmas as aloft
-use Rattle.flymon_engine.proofs.AloftLemmas.{Stand, Stands, falls_above, kept_split, enter_stand, advance_stand, advance_nobody, commit_stand, nobody_calls, nobody_passed, nobody_front, passed_there}
+use Rattle.flymon_engine.proofs.AloftLemmas.{InOrder, Stands, falls_above, kept_split, enter_stand, advance_stand, advance_nobody, commit_stand, nobody_calls, nobody_passed, nobody_front, passed_there}
 use Rattle.flymon_engine.proofs.AheadLemmas.{From, IsAhead, left_append, left_kept, moved_order, moved_all_ahead}
 
 -- the operations so far and those that are left come on each array in the order of the serial run, whose tasks are the same
 pub record Alike (board : Board) (calls : List Call) (serial : Board) (serial_calls : List Call) : Type 0 where
   pub some : 0 < length board.profile.shape.groups
-  pub stand : Stand (length board.profile.shape.groups) board.flying
+  pub stand : InOrder (length board.profile.shape.groups) board.flying
   pub ahead : All (IsAhead board.profile.shape) board.flying
   pub same : serial ≡ with_flying board []
   pub order : (array : ℕ) → filter (is_on array) (calls ++ calls_left board.flying) ≡ filter (is_on array) serial_calls
@@ -58,7 +58,7 @@ calls_exist geometry hash_key packet records =
     all_flat P on (range_with_len 0 (array_count geometry))
     (All-weaker (λ a. a < 0 + array_count geometry) (λ a. All P (on a))
     (λ a lt. All-weaker (λ (call : Call). call.array ≡ a) P
-    (λ call there. (omega arith, subst (λ x. group_number geometry x < length geometry.groups) (sym there) (group_exists geometry a (omega arith))))
+    (λ call there. (omega arith, subst (λ x. group_number geometry x < length geometry.groups) (sym there) (ended_below geometry.groups a (omega arith))))
     (on a) (calls_there hash_key packet (all_stands records) a))
     (range_with_len 0 (array_count geometry)) (range_below 0 (array_count geometry)))
 
@@ -93,20 +93,20 @@ alike_entered board calls serial serial_calls packet a nobody =
 
 -- what a packet did in its group and what is left then are what was left
 pub record Advances (geometry : Geometry) (group : ℕ) (flying : List Aloft) : Type 0 where
-  pub stand : Stand (length geometry.groups) (passed_at geometry group flying)
+  pub stand : InOrder (length geometry.groups) (passed_at geometry group flying)
   pub ahead : All (IsAhead geometry) (passed_at geometry group flying)
   pub nobody : NobodyAt group (passed_at geometry group flying)
   pub order : (array : ℕ) → filter (is_on array) (calls_at geometry group flying ++ calls_left (passed_at geometry group flying)) ≡ filter (is_on array) (calls_left flying)
 
-pub advances : (geometry : Geometry) (group : ℕ) (flying : List Aloft) → Stand (length geometry.groups) flying → All (IsAhead geometry) flying
+pub advances : (geometry : Geometry) (group : ℕ) (flying : List Aloft) → InOrder (length geometry.groups) flying → All (IsAhead geometry) flying
     → Stands group flying → NobodyAt (group + 1) flying → Advances geometry group flying
 advances geometry group flying stand ahead stands nobody =
     subst (λ g. Advances geometry g flying) stands.here
     (subst (Advances geometry stands.one.group) (sym stands.split)
-    (split stands.front stands.one stands.back (subst (Stand (length geometry.groups)) stands.split stand) (subst (All (IsAhead geometry)) stands.split ahead)
+    (split stands.front stands.one stands.back (subst (InOrder (length geometry.groups)) stands.split stand) (subst (All (IsAhead geometry)) stands.split ahead)
     (subst (NobodyAt (stands.one.group + 1)) stands.split (subst (λ g. NobodyAt (g + 1) flying) (sym stands.here) nobody))))
   where
-    split : (front : List Aloft) (one : Aloft) (back : List Aloft) → Stand (length geometry.groups) (front ++ one ∷ back) → All (IsAhead geometry) (front ++ one ∷ back)
+    split : (front : List Aloft) (one : Aloft) (back : List Aloft) → InOrder (length geometry.groups) (front ++ one ∷ back) → All (IsAhead geometry) (front ++ one ∷ back)
         → NobodyAt (one.group + 1) (front ++ one ∷ back) → Advances geometry one.group (front ++ one ∷ back)
     split front one back stand ahead nobody =
         let count : ℕ = length geometry.groups in
@@ -115,7 +115,7 @@ advances geometry group flying stand ahead stands nobody =
         let passed : passed_at geometry one.group (front ++ one ∷ back) ≡ front ++ (if_left count next ++ back) = passed_there geometry front one back above in
         let made : calls_at geometry one.group (front ++ one ∷ back) ≡ next_calls geometry one = aloft.calls_there geometry front one back above in
         record {
-          stand = subst (Stand count) (sym passed) (advance_stand count front one next back refl refl stand (nobody_front (one.group + 1) front (one ∷ back) nobody));
+          stand = subst (InOrder count) (sym passed) (advance_stand count front one next back refl refl stand (nobody_front (one.group + 1) front (one ∷ back) nobody));
           ahead = subst (All (IsAhead geometry)) (sym passed) (moved_all_ahead geometry front one back ahead);
           nobody = subst (NobodyAt one.group) (sym passed) (advance_nobody count count front one next back refl stand.falls);
           order = λ array.
@@ -123,12 +123,12 @@ advances geometry group flying stand ahead stands nobody =
               ∙ moved_order geometry front one back array above ahead;
         }
 
-pub advances_none : (geometry : Geometry) (group : ℕ) (flying : List Aloft) → Stand (length geometry.groups) flying → All (IsAhead geometry) flying
+pub advances_none : (geometry : Geometry) (group : ℕ) (flying : List Aloft) → InOrder (length geometry.groups) flying → All (IsAhead geometry) flying
     → NobodyAt group flying → Advances geometry group flying
 advances_none geometry group flying stand ahead nobody =
     let passed : passed_at geometry group flying ≡ flying = nobody_passed geometry group flying nobody in
     record {
-      stand = subst (Stand (length geometry.groups)) (sym passed) stand;
+      stand = subst (InOrder (length geometry.groups)) (sym passed) stand;
       ahead = subst (All (IsAhead geometry)) (sym passed) ahead;
       nobody = subst (NobodyAt group) (sym passed) nobody;
       order = λ array. ap₂ (λ xs ys. filter (is_on array) (xs ++ calls_left ys)) (nobody_calls geometry group flying nobody) passed;
@@ -156,14 +156,14 @@ alike_advanced board calls serial serial_calls group a does =
 -- ---- a change
 
 -- what the kept ones had to do, and then what the present ones have
-pub left_committed : (count : ℕ) (flying : List Aloft) → Stand count flying
+pub left_committed : (count : ℕ) (flying : List Aloft) → InOrder count flying
     → calls_left (filter is_kept flying) ++ calls_left (map kept_now (filter is_present flying)) ≡ calls_left flying
 left_committed count flying stand =
     ap (λ calls. calls_left (filter is_kept flying) ++ calls) (left_kept (filter is_present flying))
     ∙ sym (left_append (filter is_kept flying) (filter is_present flying))
     ∙ ap (λ fs. calls_left fs) (sym (kept_split flying stand.kept_first))
 
-pub committed_ahead : (geometry : Geometry) (count : ℕ) (flying : List Aloft) → Stand count flying → All (IsAhead geometry) flying
+pub committed_ahead : (geometry : Geometry) (count : ℕ) (flying : List Aloft) → InOrder count flying → All (IsAhead geometry) flying
     → All (IsAhead geometry) (map kept_now (filter is_present flying))
 committed_ahead geometry count flying stand ahead =
     All-map (IsAhead geometry) kept_now (filter is_present flying)

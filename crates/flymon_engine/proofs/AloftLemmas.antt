@@ -21,7 +21,7 @@ Falls high [] = Unit {0}
 Falls high (one ∷ others) = (one.group < high) × Falls one.group others
 
 -- how packets stand before so many groups: no two before the same, and those that are kept came first
-pub record Stand (count : ℕ) (flying : List Aloft) : Type 0 where
+pub record InOrder (count : ℕ) (flying : List Aloft) : Type 0 where
   pub falls : Falls count flying
   pub kept_first : OldFirst (map is_kept flying)
 
@@ -171,20 +171,20 @@ passed_there geometry (first ∷ front) one back above =
 
 -- ---- how they stand after a step
 
-pub enter_stand : (count : ℕ) (flying : List Aloft) (calls : List Call) → 0 < count → Stand count flying → NobodyAt 0 flying → Stand count (flying ++ entering calls ∷ [])
+pub enter_stand : (count : ℕ) (flying : List Aloft) (calls : List Call) → 0 < count → InOrder count flying → NobodyAt 0 flying → InOrder count (flying ++ entering calls ∷ [])
 enter_stand count flying calls some s nobody = record {
   falls = falls_enter count flying calls some s.falls nobody;
   kept_first = subst OldFirst (sym (map-append is_kept flying (entering calls ∷ []))) (old_push (map is_kept flying) s.kept_first);
 }
 
 pub advance_stand : (count : ℕ) (front : List Aloft) (one next : Aloft) (back : List Aloft) → next.group ≡ one.group + 1 → next.kept ≡ one.kept
-    → Stand count (front ++ one ∷ back) → NobodyAt (one.group + 1) front → Stand count (front ++ (if_left count next ++ back))
+    → InOrder count (front ++ one ∷ back) → NobodyAt (one.group + 1) front → InOrder count (front ++ (if_left count next ++ back))
 advance_stand count front one next back e k s nobody = by (next.group == count) refl
   where
     split : (x : Aloft) → map is_kept (front ++ x ∷ back) ≡ map is_kept front ++ x.kept ∷ map is_kept back
     split x = map-append is_kept front (x ∷ back)
 
-    by : (b : Bool) → (next.group == count) ≡ b → Stand count (front ++ (cond b [] (next ∷ []) ++ back))
+    by : (b : Bool) → (next.group == count) ≡ b → InOrder count (front ++ (cond b [] (next ∷ []) ++ back))
     by true q = record {
       falls = falls_leave count front one back s.falls;
       kept_first = subst OldFirst (sym (map-append is_kept front back)) (old_leave (map is_kept front) one.kept (map is_kept back) (subst OldFirst (split one) s.kept_first));
@@ -210,7 +210,7 @@ advance_nobody count high (first ∷ front) one next back e f =
     let below : one.group < first.group = falls_here first.group front one back f.1 in
     All-cons (λ (f : Aloft). f.group ≢ one.group) first (front ++ (if_left count next ++ back)) (omega arith) (advance_nobody count first.group front one next back e f.1)
 
-pub commit_stand : (count : ℕ) (flying : List Aloft) → Stand count flying → Stand count (map kept_now (filter is_present flying))
+pub commit_stand : (count : ℕ) (flying : List Aloft) → InOrder count flying → InOrder count (map kept_now (filter is_present flying))
 commit_stand count flying s = record {
   falls = falls_kept count (filter is_present flying)
       (falls_back count (filter is_kept flying) (filter is_present flying) (subst (Falls count) (kept_split flying s.kept_first) s.falls));
@@ -218,7 +218,7 @@ commit_stand count flying s = record {
 }
 
 -- nobody stands before the group behind the last
-pub nobody_behind : (count : ℕ) (flying : List Aloft) → Stand count flying → NobodyAt count flying
+pub nobody_behind : (count : ℕ) (flying : List Aloft) → InOrder count flying → NobodyAt count flying
 nobody_behind count flying s = falls_off count flying s.falls
 
 pub nobody_front : (group : ℕ) (front back : List Aloft) → NobodyAt group (front ++ back) → NobodyAt group front

@@ -18,7 +18,6 @@ use Rattle.switch_model.specs.Records.{Record, outlines}
 use Rattle.switch_model.specs.Sights.{Holding, all_held}
 use Rattle.switch_model.specs.Soundness.{Sound}
 use Rattle.switch_model.specs.Changes as model
-use Rattle.switch_model.specs.Changes.{judged, changed}
 use Rattle.switch_model.specs.Packets.{HoldsCells, all_stands, join, calls_of, Layout}
 use Rattle.switch_model.specs.Laws.{IsProper}
 use Rattle.switch_model.specs.Histories.{Passes, Changes}
@@ -82,17 +81,22 @@ agrees_entered m s packet a nobody =
 -- passed packets are kept if they were, and what they have left is some of what they had
 clear_moved : (geometry : Geometry) (held : List Holding) (group : ℕ) (flying : List Aloft) → All (IsClear held) flying → All (IsClear held) (passed_at geometry group flying)
 clear_moved geometry held group [] clear = All-nil (IsClear held)
-clear_moved geometry held group (one ∷ others) clear = by (one.group == group) ((moved_on geometry one).group == length geometry.groups)
+clear_moved geometry held group (one ∷ others) clear =
+    by (clear_moved geometry held group others (All-tail (IsClear held) one others clear)) (one.group == group) ((moved_on geometry one).group == length geometry.groups)
   where
+    mine : IsClear held one
+    mine = All-head (IsClear held) one others clear
+
     rest : All (IsClear held) others
     rest = All-tail (IsClear held) one others clear
 
-    by : (here last : Bool) → All (IsClear held) (cond here (cond last [] (moved_on geometry one ∷ []) ++ others) (one ∷ passed_at geometry group others))
-    by true true = rest
-    by true false = All-cons (IsClear held) (moved_on geometry one) others
-        (λ present. All-filter (λ call. not (is_in geometry one.group call)) (λ (call : Call). IsHeld held call.array call.addr) one.calls
-        (All-head (IsClear held) one others clear present)) rest
-    by false last = All-cons (IsClear held) one (passed_at geometry group others) (All-head (IsClear held) one others clear) (clear_moved geometry held group others rest)
+    by : All (IsClear held) (passed_at geometry group others) → (here last : Bool)
+        → All (IsClear held) (cond here (cond last [] (moved_on geometry one ∷ []) ++ others) (one ∷ passed_at geometry group others))
+    by later true true = rest
+    by later true false =
+        All-cons (IsClear held) (moved_on geometry one) others
+        (λ present. All-filter (λ call. not (is_in geometry one.group call)) (λ (call : Call). IsHeld held call.array call.addr) one.calls (mine present)) rest
+    by later false last = All-cons (IsClear held) one (passed_at geometry group others) mine later
 
 agrees_advanced : (m s : Moment) (group : ℕ) → Agrees m s → Meets m.board (Advance group) → Agrees (moment_after m (Advance group)) (serial_after s (Advance group))
 agrees_advanced m s group a meets =
@@ -139,13 +143,13 @@ agrees_changed m s change a proper =
     let what : model.Change = change_of change in
     let its : List Call = calls_left (filter is_kept flying) in
     let left : List Call = calls_left (map kept_now (filter is_present flying)) in
-    let fills : Contents → Contents = refilled (judged geometry (outlines records) what) in
+    let fills : Contents → Contents = refilled (model.judged geometry (outlines records) what) in
     let same : filled_by s.board (Change change) s.contents ≡ fills s.contents = ap (λ (b : Board). filled_by b (Change change) s.contents) a.alike.same in
     record {
       good = a.good;
       alike = alike_changed m.board m.calls s.board s.calls change a.alike;
       sound = stays_sound geometry records (Changes what) a.good proper a.sound;
-      clear = clear_kept (all_held (outlines (changed geometry records what))) (filter is_present flying);
+      clear = clear_kept (all_held (outlines (model.changed geometry records what))) (filter is_present flying);
       contents =
           ap (λ calls. all_made (fills (all_made m.contents calls)) left) (append-nil its)
           ∙ refilled_past geometry records what (all_made m.contents its) left a.good a.sound
@@ -155,7 +159,7 @@ agrees_changed m s change a proper =
           ∙ ap (all_made m.contents) (left_committed (length geometry.groups) flying a.alike.stand)
           ∙ a.contents)
           ∙ sym same;
-      laid = subst (Layout m.board.profile.key (changed geometry records what)) (sym same)
+      laid = subst (Layout m.board.profile.key (model.changed geometry records what)) (sym same)
           (refilled_laid geometry m.board.profile.key records what s.contents a.good a.sound a.laid);
     }
 
