@@ -1,13 +1,11 @@
 -- What packets in flight have still to do: on each array an advance leaves the order as it was.
-use Rattle.std.proofs.Common.{◌≡◌, ◌≢◌, ℕ, zero, suc, ◌+◌, ◌<◌, ◌≤◌, Bool, true, false, not, cond, List, [], ◌∷◌, ◌++◌, length, map, filter, refl, ap, ap₂, sym, ◌∙◌, subst, arith, eq-eqb, append_assoc}
+use Rattle.std.proofs.Common.{◌≡◌, ◌≢◌, ℕ, ◌+◌, ◌<◌, ◌≤◌, Bool, true, false, not, cond, List, [], ◌∷◌, ◌++◌, length, map, filter, refl, ap, ap₂, sym, ◌∙◌, arith, eq-eqb, append_assoc}
 use Rattle.std.specs.Prelude.{◌==◌, ◌&&◌}
-use Rattle.std.specs.List.{All, flat_map}
+use Rattle.std.specs.List.{All}
 use Rattle.std.proofs.Math.Path.{fun_ext}
 use Rattle.std.proofs.lemmas.Bool.{false≢true, eqb-true}
-use Rattle.std.proofs.lemmas.Bool.Decides.{nat_tests}
 use Rattle.std.proofs.lemmas.List.{append-nil}
 use Rattle.std.proofs.lemmas.List.Elements.{All-nil, All-cons, All-head, All-tail, All-append, All-weaker, All-filter, filter_passes, filter-append}
-use Rattle.std.proofs.lemmas.List.Sums.{fold-append}
 use Rattle.addr_translate.specs.Geometry.{Geometry, group_number}
 use Rattle.stateful_ops.specs.Ops.{new_register}
 use Rattle.reg_file.specs.declared.traits.Call.{Call}
@@ -16,11 +14,9 @@ use Rattle.reg_file.specs.Calls.{made, all_made, is_on}
 use Rattle.pipe_flight.specs.Schedules.{AreAt}
 use Rattle.pipe_flight.proofs.PlaceLemmas.{FromGroup, InGroup, order_by_array}
 use Rattle.switch_model.proofs.ListLemmas.{all_front, all_back, all_here, all_and, flat_append, all_flat}
-use Rattle.switch_model.proofs.CallLemmas.{filter_within, made_missed, all_alike}
+use Rattle.switch_model.proofs.CallLemmas.{filter_within, all_alike}
 use Rattle.flymon_engine.specs.Boards.{Aloft}
-use Rattle.flymon_engine.specs.Flight.{is_in, next_calls, later_calls, moved_on, if_left, kept_now, is_kept, is_present, calls_left, calls_at, passed_at}
-use Rattle.flymon_engine.specs.Schedules.{NobodyAt}
-use Rattle.flymon_engine.proofs.AloftLemmas.{Falls, InOrder, Stands, falls_here, falls_above, calls_there, passed_there}
+use Rattle.flymon_engine.specs.Flight.{is_in, next_calls, later_calls, moved_on, if_left, kept_now, calls_left}
 
 -- on a group from this one on
 abbrev pub From : Geometry → ℕ → ℕ → ℕ → Type 0

@@ -1,6 +1,6 @@
 -- Each step with packets in flight leads where the serial run does, once all have passed.
 use Rattle.std.proofs.Common.{◌≡◌, ℕ, zero, suc, ◌+◌, ◌<◌, ◌≤◌, List, [], ◌∷◌, ◌++◌, length, map, filter, refl, ap, ap₂, sym, ◌∙◌, subst, arith, append_assoc}
-use Rattle.std.specs.List.{All, flat_map, range_with_len}
+use Rattle.std.specs.List.{All, range_with_len}
 use Rattle.std.proofs.lemmas.List.{append-nil}
 use Rattle.std.proofs.lemmas.List.Elements.{All-nil, All-cons, All-append, All-weaker, All-map, filter-append}
 use Rattle.addr_translate.specs.Geometry.{Geometry, array_count, group_number}
@@ -15,7 +15,7 @@ use Rattle.switch_model.specs.Packets.{all_stands, calls_on, calls_of}
 use Rattle.switch_model.proofs.ListLemmas.{all_back, all_flat}
 use Rattle.switch_model.proofs.CallLemmas.{calls_there}
 use Rattle.flymon_engine.specs.declared.work.Change.{Change}
-use Rattle.flymon_engine.specs.Boards.{Aloft, Board, Move, no_tasks}
+use Rattle.flymon_engine.specs.Boards.{Aloft, Board, no_tasks}
 use Rattle.flymon_engine.specs.Serial.{packet_move, change_move}
 use Rattle.flymon_engine.specs.Flight.{entering, next_calls, moved_on, if_left, kept_now, is_kept, is_present, calls_left, calls_at, passed_at, with_flying, advanced, entered, settled, flight_change}
 use Rattle.flymon_engine.specs.Schedules.{NobodyAt}

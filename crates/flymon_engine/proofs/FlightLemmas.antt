@@ -1,24 +1,20 @@
 -- A run with packets in flight writes what the serial run writes, and makes the same operations on each array.
 use Rattle.std.proofs.Common.{◌≡◌, ℕ, zero, suc, ◌+◌, min, List, [], ◌∷◌, ◌++◌, length, filter, refl, ap, ap₂, sym, ◌∙◌, subst, arith, append_assoc, add-one, ⊎_elim}
-use Rattle.std.specs.List.{All}
 use Rattle.std.proofs.lemmas.List.{append-nil}
-use Rattle.std.proofs.lemmas.List.Elements.{All-nil}
 use Rattle.reg_file.specs.declared.traits.Call.{Call}
 use Rattle.reg_file.specs.Calls.{is_on}
 use Rattle.pkt_headers.specs.declared.packets.Packet.{Packet}
-use Rattle.sw_profile.specs.declared.profiles.Profile.{Profile}
 use Rattle.flymon_engine.specs.declared.work.Work.{Work}
 use Rattle.flymon_engine.specs.declared.work.Work.TheVariants.{Take, Change, Ask}
 use Rattle.flymon_engine.specs.Arrivals.{Arrival, Left}
-use Rattle.flymon_engine.specs.Boards.{Board, Move, Rules, lines_in, no_tasks}
+use Rattle.flymon_engine.specs.Boards.{Board, lines_in}
 use Rattle.flymon_engine.specs.Serial.{packet_move, serial_rules}
-use Rattle.flymon_engine.specs.Flight.{with_flying, advanced, advanced_below, entered, flight_pass, flight_rules}
+use Rattle.flymon_engine.specs.Flight.{advanced, advanced_below, entered, flight_pass, flight_rules}
 use Rattle.flymon_engine.specs.Runs.{Run, packets_line, taken_by, pass_one, pass_first, passed, lines_of, done_by, step, carried}
 use Rattle.flymon_engine.specs.Endings.{beginning, finished}
 use Rattle.flymon_engine.specs.Schedules.{NobodyAt}
 use Rattle.flymon_engine.specs.Laws.{AreAlike, FlightIsSerial}
 use Rattle.flymon_engine.proofs.AloftLemmas.{Stands, standing, nobody_behind}
-use Rattle.flymon_engine.proofs.AheadLemmas.{IsAhead}
 use Rattle.flymon_engine.proofs.AlikeLemmas.{Alike, Advances, advances, advances_none, alike_entered, alike_advanced, alike_changed, alike_settled, alike_first}
 
 -- ---- all packets pass one group each

@@ -1,5 +1,5 @@
 -- Every schedule of packets in flight keeps the order of the serial run on each array, and ends with its registers.
-use Rattle.std.proofs.Common.{◌≡◌, ℕ, ◌+◌, ◌<◌, Bool, true, false, not, cond, List, [], ◌∷◌, ◌++◌, length, map, filter, refl, ap, ap₂, sym, ◌∙◌, subst, arith, append_assoc}
+use Rattle.std.proofs.Common.{◌≡◌, ℕ, Bool, true, false, not, cond, List, [], ◌∷◌, ◌++◌, length, map, filter, refl, ap, ap₂, sym, ◌∙◌, subst, arith}
 use Rattle.std.specs.Prelude.{◌==◌}
 use Rattle.std.specs.List.{All}
 use Rattle.std.proofs.lemmas.Bool.{false≢true}
@@ -27,14 +27,13 @@ use Rattle.switch_model.proofs.IsolationLemmas.{join_same}
 use Rattle.switch_model.proofs.SoundLemmas.{stays_sound, none_sound}
 use Rattle.flymon_engine.specs.declared.work.Change as changes
 use Rattle.flymon_engine.specs.ChangeLines.{change_of}
-use Rattle.flymon_engine.specs.Going.{IsFront}
-use Rattle.flymon_engine.specs.Boards.{Aloft, Board, no_tasks}
+use Rattle.flymon_engine.specs.Boards.{Aloft, Board}
 use Rattle.flymon_engine.specs.Serial.{packet_move}
 use Rattle.flymon_engine.specs.Flight.{entering, is_in, moved_on, kept_now, is_kept, is_present, calls_left, calls_at, passed_at, advanced, settled}
 use Rattle.flymon_engine.specs.Schedules.{Step, NobodyAt, Meets, MeetAll, Moment, refilled, filled_by, moment_after, serial_after, first_moment, ran, ran_serially, FollowsSerial, KeepsSerialOrder}
 use Rattle.flymon_engine.specs.Schedules.Step.{Enter, Advance, Change, Show}
 use Rattle.flymon_engine.proofs.AloftLemmas.{kept_split, all_present, somebody}
-use Rattle.flymon_engine.proofs.AheadLemmas.{IsAhead, left_append, left_kept, same_by_array}
+use Rattle.flymon_engine.proofs.AheadLemmas.{left_kept, same_by_array}
 use Rattle.flymon_engine.proofs.AlikeLemmas.{Alike, Advances, advances, left_entered, same_entered, alike_entered, alike_advanced, alike_changed, alike_settled, alike_stayed, alike_first, left_committed}
 use Rattle.flymon_engine.proofs.RefillLemmas.{IsHeld, calls_held, refilled_past, refilled_laid}
 
