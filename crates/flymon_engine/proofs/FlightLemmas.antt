@@ -133,7 +133,7 @@ finished_follows one two f = record {
 }
 
 pub flight_is_serial : FlightIsSerial
-flight_is_serial profile left works good proper =
+flight_is_serial profile left works good =
     let start : Run = beginning profile left in
     finished_follows (carried flight_rules start works) (carried serial_rules start works)
     (carried_follows start start works (record {
