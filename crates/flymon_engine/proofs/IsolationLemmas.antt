@@ -131,7 +131,7 @@ lines_alone : (profile : Profile) (left : Left) (works : List Work) (name : List
     → lines_after profile left works name ask ≡ lines_on profile.key name ask (alone name (own_history name profile (beginning profile left) works))
 lines_alone profile left works name ask =
     let records = after profile.shape [] (history (beginning profile left) works) in
-    let there : Board = record { profile = profile; records = records } in
+    let there : Board = record { profile = profile; records = records; flying = [] } in
     ap (λ (b : Board). lines_in (request_verdict (Task name ask) (answer_on b (Task name ask)))) (carried_board (beginning profile left) works)
     ∙ (ap (λ a. lines_in (request_verdict (Task name ask) a)) (answered profile.key name ask (view_of (state_of there)) records)
     ∙ ap (lines_on profile.key name ask) (is_alone profile.shape name (history (beginning profile left) works)

@@ -14,3 +14,9 @@ pub mod FlyingLemmas
 pub mod PipelinedLemmas
 pub mod ChangeLemmas
 pub mod Values
+pub mod AloftLemmas
+pub mod AheadLemmas
+pub mod AlikeLemmas
+pub mod FlightLemmas
+pub mod RefillLemmas
+pub mod ScheduleLemmas

@@ -1,9 +1,11 @@
 -- Packets pass, enter and settle as the rules of a flight say.
-use Rattle.std.proofs.Common.{◌≡◌, ℕ, ◌+◌, ◌<◌, ◌≤◌, suc, zero, List, [], ◌∷◌, ◌++◌, length, map, filter, Option, None, Some, refl, ap, ap₂, sym, ◌∙◌, subst, arith}
+use Rattle.std.proofs.Common.{◌≡◌, ◌≢◌, Bool, true, false, cond, ℕ, ◌+◌, ◌<◌, ◌≤◌, suc, zero, List, [], ◌∷◌, ◌++◌, length, map, filter, Option, None, Some, refl, ap, ap₂, sym, ◌∙◌, subst, arith}
+use Rattle.std.specs.Prelude.{◌==◌}
 use Rattle.std.specs.List.{All}
 use Rattle.std.proofs.lemmas.List.{append-nil, append_assoc}
-use Rattle.outside.specs.Told.{Told, Grows}
-use Rattle.outside.proofs.ToldLemmas.{grows_then}
+use Rattle.std.proofs.lemmas.List.Elements.{All-nil, All-cons, All-append, All-weaker}
+use Rattle.outside.specs.Told.{Told, Stays, Grows}
+use Rattle.outside.proofs.ToldLemmas.{grows_none, grows_then, grows_stays, stays_same}
 use Rattle.addr_translate.specs.Geometry.{Geometry, group_number}
 use Rattle.pkt_headers.specs.declared.packets.Packet.{Packet}
 use Rattle.reg_file.specs.declared.traits.Call.{Call}
@@ -21,7 +23,7 @@ use Rattle.pipe_flight.specs.States.{versions, group_count, MovesOn, moved_with}
 use Rattle.pipe_flight.proofs.DrainLemmas.{BothStaged, drain_append, enter_drain}
 use Rattle.pipe_flight.proofs.CommitLemmas.{commit_drained}
 use Rattle.pipe_flight.proofs.MoveLemmas.{both_staged, count_same}
-use Rattle.pipe_flight.proofs.OrderLemmas.{falls_here, falls_above, old_split, all_present}
+use Rattle.pipe_flight.proofs.OrderLemmas.{falls_wider, falls_back, falls_here, falls_above, old_split, all_present}
 use Rattle.switch_model.specs.Packets.{join, calls_of, Layout}
 use Rattle.rule_txn.specs.Switch.{SwitchState, rules_for}
 use Rattle.rule_txn.specs.Seen.{StandsFor}
@@ -31,7 +33,7 @@ use Rattle.sw_profile.specs.declared.profiles.Profile.{Profile}
 use Rattle.flymon_engine.specs.declared.pipelined.Pipelined.{Pipelined}
 use Rattle.flymon_engine.specs.Boards.{Aloft, Board, Move}
 use Rattle.flymon_engine.specs.Moves.{Moves}
-use Rattle.flymon_engine.specs.Serial.{serial_lays, IsSerial}
+use Rattle.flymon_engine.specs.Serial.{stayed, serial_lays, IsSerial}
 use Rattle.flymon_engine.specs.Flight as model
 use Rattle.flymon_engine.specs.Flight.{with_flying, and_then, advanced, advanced_below, entered, settled, kept_now, is_present, is_kept, calls_left, calls_at, passed_at}
 use Rattle.flymon_engine.specs.Pipelined.{alofts, versions_of, IsPipeOf, IsAirborne, FitsPipelined}
@@ -124,6 +126,51 @@ advances_none pipe before switch group flying board contents nobody air =
     },
     ap (calls_at shape group) air.flying ∙ nobody_calls shape group rules contents flying nobody)
 
+pub moves_none : (pipe before : pipes.Rules) (switch : SwitchState) (group : ℕ) (flying : List (Flying Packet)) (board : Board) (contents : Contents) (list : Option (List Call))
+    → NobodyAt group flying → IsAirborne (versions pipe before) switch flying board contents
+    → Moves (IsAirborne (versions pipe before) switch flying) (advanced group board) list list contents
+moves_none pipe before switch group flying board contents list nobody air =
+    let none = advances_none pipe before switch group flying board contents nobody air in
+    record { stood = none.0; made = subst (λ cs. Grows list cs list) (sym none.1) (grows_none list list (stays_same list)) }
+
+-- an advance of the flight, where the registers are told
+pub advance_told : (pipe before : pipes.Rules) (switch : SwitchState) (group : ℕ) (flying new_flying : List (Flying Packet)) (contents new_contents : Option Contents) (list new_list : Option (List Call))
+    → SameShape before pipe → IsFlight (group_count before) flying → switch.geometry ≡ pipe.geometry
+    → MovesOn (versions pipe before) group flying new_flying contents new_contents list new_list
+    → Told (λ old new. drain (versions pipe before) new new_flying ≡ drain (versions pipe before) old flying) contents new_contents
+    → Told (λ old new. (board : Board) → IsAirborne (versions pipe before) switch flying board old
+        → Moves (IsAirborne (versions pipe before) switch new_flying) (advanced group board) list new_list new) contents new_contents
+advance_told pipe before switch group flying new_flying None None list new_list same order shape m drains = tt
+advance_told pipe before switch group flying new_flying (Some old) None list new_list same order shape m drains = tt
+advance_told pipe before switch group flying new_flying None (Some new) list new_list same order shape m drains = absurd drains
+advance_told pipe before switch group flying new_flying (Some old) (Some new) list new_list same order shape m drains =
+    λ board air. advances_one pipe before switch group flying new_flying board old new list new_list same order shape m drains air
+
+falls_under : (high : ℕ) (flying : List (Flying Packet)) → Falls high flying → All (λ (f : Flying Packet). f.group < high) flying
+falls_under high [] falls = All-nil (λ (f : Flying Packet). f.group < high)
+falls_under high (one ∷ flying) falls =
+    All-cons (λ (f : Flying Packet). f.group < high) one flying falls.0 (falls_under high flying (falls_wider one.group high flying (omega (arith, falls.0)) falls.1))
+
+-- nobody is left before the group
+pub left_behind : (rules : Versions Packet) (high group : ℕ) (flying new_flying : List (Flying Packet)) (contents new_contents : Option Contents) (list new_list : Option (List Call))
+    → Falls high flying → MovesOn rules group flying new_flying contents new_contents list new_list → NobodyAt group new_flying
+left_behind rules high group flying new_flying contents new_contents list new_list falls m =
+    let N : Flying Packet → Type 0 = λ f. f.group ≢ group in
+    let fell : Falls high (m.front ++ m.one ∷ m.back) = subst (Falls high) m.split falls in
+    let here = m.here in
+    let next = moved_with m.one m.outs in
+    subst (NobodyAt group) (sym m.new_split)
+    (All-append N m.front (orders.if_left rules.count next ++ m.back)
+    (All-weaker (λ (f : Flying Packet). m.one.group + 1 ≤ f.group) N (λ f le e. omega (arith, le, e, here)) m.front (falls_above high m.front m.one m.back fell))
+    (All-append N (orders.if_left rules.count next) m.back
+    (by (next.group == rules.count) (λ e. omega (arith, e, here)))
+    (All-weaker (λ (f : Flying Packet). f.group < m.one.group) N (λ f less e. omega (arith, less, e, here)) m.back
+    (falls_under m.one.group m.back (falls_back high m.front (m.one ∷ m.back) fell).1))))
+  where
+    by : (b : Bool) → (m.one.group + 1 ≢ group) → NobodyAt group (cond b [] (moved_with m.one m.outs ∷ []))
+    by true away = All-nil (λ (f : Flying Packet). f.group ≢ group)
+    by false away = All-cons (λ (f : Flying Packet). f.group ≢ group) (moved_with m.one m.outs) [] away (All-nil (λ (f : Flying Packet). f.group ≢ group))
+
 -- ---- a packet enters
 
 pub enters : (pipe before : pipes.Rules) (switch : SwitchState) (packet : Packet) (flying : List (Flying Packet)) (board : Board) (contents : Contents)
@@ -174,4 +221,80 @@ commits pipe before switch flying new_flying board old new calls list new_list o
       };
       made = subst (λ cs. Grows list cs new_list)
           (made.0 ∙ sym (old_calls rules old flying order.old_first) ∙ sym (ap (λ fs. calls_left (filter is_kept fs)) air.flying)) grew;
+    }
+
+-- ---- each packet in flight passes a group
+
+-- so far, down to the groups below `left`
+pub record GoesDown (rules : Versions Packet) (switch : SwitchState) (flying : List (Flying Packet)) (board : Board) (count left : ℕ) (list new_list : Option (List Call)) (contents : Contents) : Type 0 where
+  pub so_far : Move
+  pub moves : Moves (IsAirborne rules switch flying) so_far list new_list contents
+  pub whole : and_then so_far (advanced_below left) ≡ advanced_below count board
+
+pub goes_first : (rules : Versions Packet) (switch : SwitchState) (flying : List (Flying Packet)) (board : Board) (count : ℕ) (list : Option (List Call)) (contents : Contents)
+    → IsAirborne rules switch flying board contents → GoesDown rules switch flying board count count list list contents
+goes_first rules switch flying board count list contents air = record {
+  so_far = stayed board;
+  moves = record { stood = air; made = grows_none list list (stays_same list) };
+  whole = refl;
+}
+
+abbrev a_move : Board → List Call → Move
+a_move board calls = record { board = board; calls = calls }
+
+pub goes_on : (rules : Versions Packet) (switch : SwitchState) (flying new_flying : List (Flying Packet)) (board : Board) (count left : ℕ) (list mid_list new_list : Option (List Call)) (old new : Contents)
+    → GoesDown rules switch flying board count (suc left) list mid_list old
+    → ((b : Board) → IsAirborne rules switch flying b old → Moves (IsAirborne rules switch new_flying) (advanced left b) mid_list new_list new)
+    → GoesDown rules switch new_flying board count left list new_list new
+goes_on rules switch flying new_flying board count left list mid_list new_list old new goes step =
+    let here = step goes.so_far.board goes.moves.stood in
+    let next = advanced left goes.so_far.board in
+    record {
+      so_far = and_then goes.so_far (advanced left);
+      moves = record { stood = here.stood; made = grows_then list mid_list new_list goes.so_far.calls next.calls goes.moves.made here.made };
+      whole = ap (a_move (advanced_below left next.board).board) (append_assoc goes.so_far.calls next.calls (advanced_below left next.board).calls) ∙ goes.whole;
+    }
+
+pub goes_last : (rules : Versions Packet) (switch : SwitchState) (flying : List (Flying Packet)) (board : Board) (count : ℕ) (list new_list : Option (List Call)) (contents : Contents)
+    → GoesDown rules switch flying board count 0 list new_list contents → Moves (IsAirborne rules switch flying) (advanced_below count board) list new_list contents
+goes_last rules switch flying board count list new_list contents goes =
+    subst (λ move. Moves (IsAirborne rules switch flying) move list new_list contents)
+    (ap (a_move goes.so_far.board) (sym (append-nil goes.so_far.calls)) ∙ goes.whole) goes.moves
+
+-- ---- the calls of the machine
+
+pub passes : (pipe before new_before : pipes.Rules) (switch : SwitchState) (packet : Packet) (flying mid_flying new_flying : List (Flying Packet)) (board : Board) (old new : Contents) (list new_list : Option (List Call))
+    → IsPipeOf pipe switch → new_before ≡ before → new_flying ≡ mid_flying ++ entering no_carries packet ∷ []
+    → (IsAirborne (versions pipe before) switch flying board old → Moves (IsAirborne (versions pipe before) switch mid_flying) (advanced_below (group_count pipe) board) list new_list new)
+    → IsAirborne (versions_of switch before) switch flying board old
+    → Moves (IsAirborne (versions_of switch new_before) switch new_flying) (model.flight_pass board packet) list new_list new
+passes pipe before new_before switch packet flying mid_flying new_flying board old new list new_list of kept flew moves air =
+    let are = versions_are pipe before switch of in
+    let count : group_count pipe ≡ length board.profile.shape.groups = ap (λ (g : Geometry). length g.groups) (of.geometry ∙ air.serial.geometry) in
+    let went : Moves (IsAirborne (versions pipe before) switch mid_flying) (advanced_below (length board.profile.shape.groups) board) list new_list new =
+        subst (λ n. Moves (IsAirborne (versions pipe before) switch mid_flying) (advanced_below n board) list new_list new) count
+        (moves (subst (λ v. IsAirborne v switch flying board old) (sym are) air)) in
+    let below = advanced_below (length board.profile.shape.groups) board in
+    record {
+      stood = subst (λ fs. IsAirborne (versions_of switch new_before) switch fs (entered packet below.board).board new) (sym flew)
+          (subst (λ b. IsAirborne (versions_of switch b) switch (mid_flying ++ entering no_carries packet ∷ []) (entered packet below.board).board new) (sym kept)
+          (subst (λ v. IsAirborne v switch (mid_flying ++ entering no_carries packet ∷ []) (entered packet below.board).board new) are
+          (enters pipe before switch packet mid_flying below.board new of went.stood)));
+      made = subst (λ cs. Grows list cs new_list) (sym (append-nil below.calls)) went.made;
+    }
+
+-- a read-out, or the end: all packets pass first
+pub asks : (pipe before new_before : pipes.Rules) (switch new_switch : SwitchState) (flying new_flying : List (Flying Packet)) (board : Board) (old new : Contents)
+    (calls : List Call) (list mid_list new_list : Option (List Call)) → IsPipeOf pipe switch → new_switch ≡ switch → new_flying ≡ []
+    → Grows list calls mid_list → (calls ≡ drained (versions pipe before) old flying) × (new ≡ all_made old calls) → Stays mid_list new_list
+    → IsAirborne (versions_of switch before) switch flying board old
+    → Moves (IsAirborne (versions_of new_switch new_before) new_switch new_flying) (settled board) list new_list new
+asks pipe before new_before switch new_switch flying new_flying board old new calls list mid_list new_list of same landed grew made stays air =
+    let went = settles (versions pipe before) switch flying board old new calls list mid_list grew made
+        (subst (λ v. IsAirborne v switch flying board old) (sym (versions_are pipe before switch of)) air) in
+    record {
+      stood = subst (λ s. IsAirborne (versions_of s new_before) s new_flying (settled board).board new) (sym same)
+          (subst (λ fs. IsAirborne (versions_of switch new_before) switch fs (settled board).board new) (sym landed)
+          (record { flying = refl; serial = went.stood.1 }));
+      made = grows_stays list mid_list new_list (settled board).calls went.made stays;
     }

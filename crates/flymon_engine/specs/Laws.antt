@@ -1,9 +1,7 @@
 -- What is true of runs.
 use Rattle.std.specs.Prelude.{◌≡◌, ℕ, Bool, true, List, [], ◌∷◌, ◌++◌, map, take, filter, Result}
-use Rattle.std.specs.List.{All}
 use Rattle.addr_translate.specs.Geometry.{IsGeometry}
 use Rattle.reg_file.specs.Calls.{is_on}
-use Rattle.switch_model.specs.Laws.{IsProper}
 use Rattle.std.specs.Str.{bytes_eq}
 use Rattle.readout.specs.declared.requests.Ask as asks
 use Rattle.readout.specs.declared.requests.Request.TheVariants.{Task}
@@ -69,12 +67,6 @@ AnswersAlone = (one two : Profile) (left_one left_two : Left) (works_one works_t
 
 -- ---- packets in flight
 
--- a task that is added is one that there may be
-abbrev pub IsProperWork : Work → Type 0
-IsProperWork (Take count) = Unit {0}
-IsProperWork (Change change) = IsProper (change_of change)
-IsProperWork (Ask request) = Unit {0}
-
 -- two runs wrote the same, have the same tasks and the same packets left, and made the same operations on each array in the
 -- same order
 pub record AreAlike (one two : Run) : Type 0 where
@@ -85,5 +77,5 @@ pub record AreAlike (one two : Run) : Type 0 where
 
 -- What a run does with packets before different groups at once is what it does with one packet after another.
 abbrev pub FlightIsSerial : Type 0
-FlightIsSerial = (profile : Profile) (left : Left) (works : List Work) → IsGeometry profile.shape → All IsProperWork works
+FlightIsSerial = (profile : Profile) (left : Left) (works : List Work) → IsGeometry profile.shape
     → AreAlike (finished flight_rules (carried flight_rules (beginning profile left) works)) (finished serial_rules (carried serial_rules (beginning profile left) works))

@@ -35,10 +35,10 @@ use Rattle.rule_txn.proofs.Bounds.{cmus, spot_holding, spots_live, group_range, 
 
 -- ---- bases of entries differ, since regions share no register
 
-all_lives : (os : List Outline) → List Holding
+pub all_lives : (os : List Outline) → List Holding
 all_lives os = flat_map (λ (o : Outline). map live_holding o.rows) os
 
-live_all : (P : Holding → Type 0) (os : List Outline) → All P (flat_map held_by os) → All P (all_lives os)
+pub live_all : (P : Holding → Type 0) (os : List Outline) → All P (flat_map held_by os) → All P (all_lives os)
 unfolding all_lives
 live_all P [] each = each
 live_all P (o ∷ os) each =
@@ -56,7 +56,7 @@ live_pairs (o ∷ os) pairs =
     (All-weaker (λ x. All (ShareNone x) (flat_map held_by os)) (λ x. All (ShareNone x) (all_lives os)) (λ x each. live_all (ShareNone x) os each) (map live_holding o.rows)
     (all_front (λ x. All (ShareNone x) (flat_map held_by os)) (map live_holding o.rows) (filter_map frozen_holding o.rows) outer.across))
 
-spots_are_live : (os : List Outline) → map spot_holding (flat_map spots_by os) ≡ all_lives os
+pub spots_are_live : (os : List Outline) → map spot_holding (flat_map spots_by os) ≡ all_lives os
 unfolding all_lives
 spots_are_live [] = refl
 spots_are_live (o ∷ os) =

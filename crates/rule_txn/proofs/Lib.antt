@@ -30,6 +30,7 @@ pub mod LookChanges
 pub mod LookViews
 pub mod LookStarts
 pub mod BridgePipe
+pub mod SwitchRules
 pub mod ShownView
 mod ShownValues
 mod Resized

@@ -4,7 +4,7 @@ use Rattle.std.specs.List.{range_with_len}
 use Rattle.addr_translate.specs.Geometry.{Geometry, IsGeometry, array_count, bits_of, group_in}
 use Rattle.partition_pool.specs.Pools.{PoolState}
 use Rattle.match_table.specs.Tables.{EntryTable}
-use Rattle.pipe_core.specs.Rules.{Rules, first_rules, rules_of}
+use Rattle.pipe_core.specs.Rules.{Rules, rules_of, first_rules}
 use Rattle.switch_model.specs.Records.{Outline}
 use Rattle.switch_model.specs.Sights.{Holding, Spot, GroupUse, all_held, all_spots, all_uses, taken_on, rules_on, units_on, by_place}
 use Rattle.switch_model.specs.Soundness.{Sound}
@@ -41,7 +41,8 @@ groups_for geometry uses = map (units_on geometry uses) (range_with_len 0 (lengt
 
 -- rules that make of each packet what a switch in this state makes of it: entries stand in the order of their bases
 abbrev pub rules_for : SwitchState → Rules
-rules_for state = rules_of state.geometry state.hash_key (tables_for state.geometry (all_spots state.outlines)) (groups_for state.geometry (all_uses state.geometry state.outlines))
+rules_for state = rules_of state.geometry state.hash_key (tables_for state.geometry (all_spots state.outlines))
+    (groups_for state.geometry (all_uses state.geometry state.outlines))
 
 -- pools, tables and units are those of the tasks
 pub record Stands (outlines : List Outline) (state : State) : Type 0 where
