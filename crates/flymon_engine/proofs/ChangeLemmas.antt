@@ -218,8 +218,8 @@ pub changes : (pipe before new_before : pipes.Rules) (switch after : SwitchState
     → Changes flight_rules (IsAirborne (versions_of after new_before) after new_flying) board change result list new_list new
 changes pipe before new_before switch after change result flying new_flying board old mid new calls list mid_list new_list good of order kept flew grew made fills edits air =
     let went : Moves (IsAirborne (versions pipe pipe) switch new_flying) (committed board) list mid_list mid =
-        commits pipe before switch flying new_flying board old mid calls list mid_list order flew grew made
-        (subst (λ v. IsAirborne v switch flying board old) (sym (versions_are pipe before switch of)) air) in
+    commits pipe before switch flying new_flying board old mid calls list mid_list order flew grew made
+    (subst (λ v. IsAirborne v switch flying board old) (sym (versions_are pipe before switch of)) air) in
     let olds : All (λ (f : Flying Packet). f.kept ≡ true) new_flying = subst (All (λ (f : Flying Packet). f.kept ≡ true)) (sym flew) (all_old (filter is_present flying)) in
     subst (λ b. Changes flight_rules (IsAirborne (versions_of after b) after new_flying) board change result list new_list new) (sym kept)
     (commits_then (IsAirborne (versions_of after pipe) after new_flying) board change result list mid_list new_list new went.made

@@ -97,7 +97,7 @@ advances_one pipe before switch group flying new_flying board old new list new_l
     let there : alofts rules old (m.front ++ m.one ∷ m.back) ≡ board.flying = ap (alofts rules old) (sym m.split) ∙ sym air.flying in
     let is_next : moved_with m.one m.outs ≡ flights.moved_on rules old m.one = ap (moved_with m.one) m.makes.told.1 in
     let flew : new_flying ≡ m.front ++ (orders.if_left (group_count pipe) (flights.moved_on rules old m.one) ++ m.back) =
-        m.new_split ∙ ap (λ n. m.front ++ (orders.if_left (group_count pipe) n ++ m.back)) is_next in
+    m.new_split ∙ ap (λ n. m.front ++ (orders.if_left (group_count pipe) n ++ m.back)) is_next in
     record {
       stood = record {
         flying = ap₂ (λ g k. passed_at g k board.flying) profile (sym m.here)
@@ -119,12 +119,13 @@ pub advances_none : (pipe before : pipes.Rules) (switch : SwitchState) (group : 
     → IsAirborne (versions pipe before) switch flying (advanced group board).board contents × ((advanced group board).calls ≡ [])
 advances_none pipe before switch group flying board contents nobody air =
     let rules = versions pipe before in
-    let shape = board.profile.shape in
-    (record {
-      flying = ap (passed_at shape group) air.flying ∙ nobody_passes shape group rules contents flying nobody;
-      serial = serial_flying switch board (passed_at shape group board.flying) (drain rules contents flying) air.serial;
-    },
-    ap (calls_at shape group) air.flying ∙ nobody_calls shape group rules contents flying nobody)
+    let shape = board.profile.shape in (
+      record {
+        flying = ap (passed_at shape group) air.flying ∙ nobody_passes shape group rules contents flying nobody;
+        serial = serial_flying switch board (passed_at shape group board.flying) (drain rules contents flying) air.serial;
+      },
+      ap (calls_at shape group) air.flying ∙ nobody_calls shape group rules contents flying nobody,
+    )
 
 pub moves_none : (pipe before : pipes.Rules) (switch : SwitchState) (group : ℕ) (flying : List (Flying Packet)) (board : Board) (contents : Contents) (list : Option (List Call))
     → NobodyAt group flying → IsAirborne (versions pipe before) switch flying board contents
@@ -139,7 +140,7 @@ pub advance_told : (pipe before : pipes.Rules) (switch : SwitchState) (group : �
     → MovesOn (versions pipe before) group flying new_flying contents new_contents list new_list
     → Told (λ old new. drain (versions pipe before) new new_flying ≡ drain (versions pipe before) old flying) contents new_contents
     → Told (λ old new. (board : Board) → IsAirborne (versions pipe before) switch flying board old
-        → Moves (IsAirborne (versions pipe before) switch new_flying) (advanced group board) list new_list new) contents new_contents
+    → Moves (IsAirborne (versions pipe before) switch new_flying) (advanced group board) list new_list new) contents new_contents
 advance_told pipe before switch group flying new_flying None None list new_list same order shape m drains = tt
 advance_told pipe before switch group flying new_flying (Some old) None list new_list same order shape m drains = tt
 advance_told pipe before switch group flying new_flying None (Some new) list new_list same order shape m drains = absurd drains
@@ -152,10 +153,10 @@ pub advance_under : (pipe first before new_before : pipes.Rules) (switch : Switc
     → MovesOn (versions pipe before) group flying new_flying contents new_contents list new_list
     → Told (λ old new. drain (versions pipe new_before) new new_flying ≡ drain (versions pipe before) old flying) contents new_contents
     → Told (λ old new. (board : Board) → IsAirborne (versions pipe first) switch flying board old
-        → Moves (IsAirborne (versions pipe first) switch new_flying) (advanced group board) list new_list new) contents new_contents
+    → Moves (IsAirborne (versions pipe first) switch new_flying) (advanced group board) list new_list new) contents new_contents
 advance_under pipe first before new_before switch group flying new_flying contents new_contents list new_list e kept same order shape m drains =
     subst (λ b. Told (λ old new. (board : Board) → IsAirborne (versions pipe b) switch flying board old
-        → Moves (IsAirborne (versions pipe b) switch new_flying) (advanced group board) list new_list new) contents new_contents) e
+    → Moves (IsAirborne (versions pipe b) switch new_flying) (advanced group board) list new_list new) contents new_contents) e
     (advance_told pipe before switch group flying new_flying contents new_contents list new_list same order shape m
     (subst (λ b. Told (λ old new. drain (versions pipe b) new new_flying ≡ drain (versions pipe before) old flying) contents new_contents) kept drains))
 
@@ -193,8 +194,8 @@ enters pipe before switch packet flying board contents of air =
     let rules = versions pipe before in
     let after = drain rules contents flying in
     let calls : flow (stages_in pipe) after packet (group_count pipe) 0 no_carries ≡ calls_of switch.geometry switch.hash_key packet board.records =
-        ap (λ (g : Geometry). flow (stages_in pipe) after packet (length g.groups) 0 no_carries) of.geometry
-        ∙ calls_for pipe switch board.records packet after of.whole of.geometry of.hash_key of.tables of.groups air.serial.stands in
+    ap (λ (g : Geometry). flow (stages_in pipe) after packet (length g.groups) 0 no_carries) of.geometry
+    ∙ calls_for pipe switch board.records packet after of.whole of.geometry of.hash_key of.tables of.groups air.serial.stands in
     record {
       flying = ap₂ (λ fs cs. fs ++ model.entering cs ∷ []) air.flying
           (sym (calls ∙ ap₂ (λ g k. calls_of g k packet board.records) air.serial.geometry air.serial.hash_key))
@@ -220,10 +221,10 @@ commits pipe before switch flying new_flying board old new calls list new_list o
     let mid : new ≡ drain rules old (filter is_old flying) = made.1 ∙ ap (all_made old) made.0 in
     let presents = filter orders.is_present flying in
     let drains : drain (versions pipe pipe) new new_flying ≡ drain rules old flying =
-        ap₂ (drain (versions pipe pipe)) mid flew
-        ∙ ap (all_made (drain rules old (filter is_old flying))) (commit_drained rules (stages_in pipe) (drain rules old (filter is_old flying)) presents (all_present flying))
-        ∙ sym (drain_append rules old (filter is_old flying) presents)
-        ∙ ap (drain rules old) (sym (old_split flying order.old_first)) in
+    ap₂ (drain (versions pipe pipe)) mid flew
+    ∙ ap (all_made (drain rules old (filter is_old flying))) (commit_drained rules (stages_in pipe) (drain rules old (filter is_old flying)) presents (all_present flying))
+    ∙ sym (drain_append rules old (filter is_old flying) presents)
+    ∙ ap (drain rules old) (sym (old_split flying order.old_first)) in
     record {
       stood = record {
         flying = ap (λ fs. map kept_now (filter is_present fs)) air.flying
@@ -293,7 +294,7 @@ pub told_on : (pipe before : pipes.Rules) (switch : SwitchState) (start flying n
 told_on pipe before switch start flying new_flying board left group contents mid new_contents list mid_list new_list e goes step =
     told_then contents mid new_contents
     (λ x y z p q air. goes_on (versions pipe before) switch flying new_flying board (group_count pipe) group list mid_list new_list y z
-        (subst (λ n. GoesDown (versions pipe before) switch flying board (group_count pipe) n list mid_list y) e (p air)) q)
+    (subst (λ n. GoesDown (versions pipe before) switch flying board (group_count pipe) n list mid_list y) e (p air)) q)
     goes step
 
 pub told_none : (pipe before : pipes.Rules) (switch : SwitchState) (start flying : List (Flying Packet)) (board : Board) (left group : ℕ) (contents now : Option Contents) (list new_list : Option (List Call))
@@ -302,18 +303,18 @@ pub told_none : (pipe before : pipes.Rules) (switch : SwitchState) (start flying
 told_none pipe before switch start flying board left group contents now list new_list e nobody goes =
     told_weaker contents now
     (λ x y p air. goes_on (versions pipe before) switch flying flying board (group_count pipe) group list new_list new_list y y
-        (subst (λ n. GoesDown (versions pipe before) switch flying board (group_count pipe) n list new_list y) e (p air))
-        (λ b. moves_none pipe before switch group flying b y new_list nobody))
+    (subst (λ n. GoesDown (versions pipe before) switch flying board (group_count pipe) n list new_list y) e (p air))
+    (λ b. moves_none pipe before switch group flying b y new_list nobody))
     goes
 
 pub told_last : (pipe before : pipes.Rules) (switch : SwitchState) (start flying : List (Flying Packet)) (board : Board) (left : ℕ) (contents now : Option Contents) (list new_list : Option (List Call))
     → left ≡ 0 → GoesTold pipe before switch start flying board left contents now list new_list
     → Told (λ old new. IsAirborne (versions pipe before) switch start board old
-        → Moves (IsAirborne (versions pipe before) switch flying) (advanced_below (group_count pipe) board) list new_list new) contents now
+    → Moves (IsAirborne (versions pipe before) switch flying) (advanced_below (group_count pipe) board) list new_list new) contents now
 told_last pipe before switch start flying board left contents now list new_list e goes =
     told_weaker contents now
     (λ x y p air. goes_last (versions pipe before) switch flying board (group_count pipe) list new_list y
-        (subst (λ n. GoesDown (versions pipe before) switch flying board (group_count pipe) n list new_list y) e (p air)))
+    (subst (λ n. GoesDown (versions pipe before) switch flying board (group_count pipe) n list new_list y) e (p air)))
     goes
 
 -- ---- the calls of the machine
@@ -327,8 +328,8 @@ passes pipe before new_before switch packet flying mid_flying new_flying board o
     let are = versions_are pipe before switch of in
     let count : group_count pipe ≡ length board.profile.shape.groups = ap (λ (g : Geometry). length g.groups) (of.geometry ∙ air.serial.geometry) in
     let went : Moves (IsAirborne (versions pipe before) switch mid_flying) (advanced_below (length board.profile.shape.groups) board) list new_list new =
-        subst (λ n. Moves (IsAirborne (versions pipe before) switch mid_flying) (advanced_below n board) list new_list new) count
-        (moves (subst (λ v. IsAirborne v switch flying board old) (sym are) air)) in
+    subst (λ n. Moves (IsAirborne (versions pipe before) switch mid_flying) (advanced_below n board) list new_list new) count
+    (moves (subst (λ v. IsAirborne v switch flying board old) (sym are) air)) in
     let below = advanced_below (length board.profile.shape.groups) board in
     record {
       stood = subst (λ fs. IsAirborne (versions_of switch new_before) switch fs (entered packet below.board).board new) (sym flew)
@@ -351,7 +352,7 @@ pub finishes : (pipe before : pipes.Rules) (switch : SwitchState) (flying : List
     → Moves serial_lays (settled board) list new_list new
 finishes pipe before switch flying board old new calls list new_list of grew made air =
     let went = settles (versions pipe before) switch flying board old new calls list new_list grew made
-        (subst (λ v. IsAirborne v switch flying board old) (sym (versions_are pipe before switch of)) air) in
+    (subst (λ v. IsAirborne v switch flying board old) (sym (versions_are pipe before switch of)) air) in
     record { stood = serial_laid switch (settled board).board new went.stood.1; made = went.made }
 
 -- a read-out: all packets pass first
@@ -362,7 +363,7 @@ pub asks : (pipe before new_before : pipes.Rules) (switch new_switch : SwitchSta
     → Moves (IsAirborne (versions_of new_switch new_before) new_switch new_flying) (settled board) list new_list new
 asks pipe before new_before switch new_switch flying new_flying board old new calls list mid_list new_list of same landed grew made stays air =
     let went = settles (versions pipe before) switch flying board old new calls list mid_list grew made
-        (subst (λ v. IsAirborne v switch flying board old) (sym (versions_are pipe before switch of)) air) in
+    (subst (λ v. IsAirborne v switch flying board old) (sym (versions_are pipe before switch of)) air) in
     record {
       stood = subst (λ s. IsAirborne (versions_of s new_before) s new_flying (settled board).board new) (sym same)
           (subst (λ fs. IsAirborne (versions_of switch new_before) switch fs (settled board).board new) (sym landed)
