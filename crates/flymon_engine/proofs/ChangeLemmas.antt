@@ -1,5 +1,5 @@
 -- A change behind a commit: it fills registers on which no packet in flight has an operation to make.
-use Rattle.std.proofs.Common.{◌≡◌, ◌≢◌, ℕ, ◌+◌, ◌-◌, ◌<◌, ◌≤◌, ◌^◌, Bool, true, false, cond, List, [], ◌∷◌, ◌++◌, length, map, get_or, Option, Result, Ok, Err, refl, ap, ap₂, sym, ◌∙◌, subst, arith}
+use Rattle.std.proofs.Common.{◌≡◌, ◌≢◌, ℕ, ◌+◌, ◌-◌, ◌<◌, ◌≤◌, ◌^◌, Bool, true, false, cond, List, [], ◌∷◌, ◌++◌, length, map, filter, get_or, Option, Result, Ok, Err, refl, ap, ap₂, sym, ◌∙◌, subst, arith}
 use Rattle.std.specs.Prelude.{◌||◌}
 use Rattle.std.specs.List.{All, Contains, list_any}
 use Rattle.std.proofs.Math.Path.{fun_ext}
@@ -18,13 +18,17 @@ use Rattle.reg_file.specs.declared.traits.DeviceFault.{DeviceFault}
 use Rattle.reg_file.specs.Registers.{Contents}
 use Rattle.pipe_core.specs.Flow.{Stages, stages_in}
 use Rattle.pipe_core.specs.Rules as pipes
-use Rattle.pipe_flight.specs.Flights.{Flying, Versions, drain}
+use Rattle.pipe_flight.specs.Flights as flights
+use Rattle.pipe_flight.specs.Flights.{Flying, Versions, drained, drain}
+use Rattle.pipe_flight.specs.Orders.{IsFlight, is_old, is_present}
 use Rattle.pipe_flight.specs.Schedules.{Fill, filled, Avoids}
 use Rattle.pipe_flight.specs.Drains.{with_now}
 use Rattle.pipe_flight.specs.Pipes.{Names}
-use Rattle.pipe_flight.specs.States.{versions}
+use Rattle.pipe_flight.specs.States.{versions, group_count}
 use Rattle.pipe_flight.proofs.PipeLemmas.{unnamed_avoided}
 use Rattle.pipe_flight.proofs.LawLemmas.{fill_drain}
+use Rattle.pipe_flight.proofs.OrderLemmas.{all_old}
+use Rattle.reg_file.specs.Calls.{all_made}
 use Rattle.switch_model.specs.Records.{Record, Outline, outlines}
 use Rattle.switch_model.specs.Sights.{Holding, all_held}
 use Rattle.switch_model.specs.Soundness.{Sound, ShareNone}
@@ -45,6 +49,7 @@ use Rattle.flymon_engine.specs.Serial.{serial_rules, with_records, IsSerial, Edi
 use Rattle.flymon_engine.specs.Flight.{flight_rules, committed}
 use Rattle.flymon_engine.specs.Pipelined.{alofts, versions_of, IsPipeOf, IsAirborne}
 use Rattle.flymon_engine.proofs.FlyingLemmas.{fill_alofts}
+use Rattle.flymon_engine.proofs.PipelinedLemmas.{versions_are, commits}
 
 -- ---- what a change fills
 
@@ -203,3 +208,19 @@ commits_then stands board change (Err fault) list mid_list new_list new grew is 
     made = subst (λ cs. Grows list cs new_list) (append-nil (committed board).calls) (grows_then list mid_list new_list (committed board).calls [] grew is.moves.made);
   };
 }
+
+pub changes : (pipe before new_before : pipes.Rules) (switch after : SwitchState) (change : Change) (result : Result ArrayString DeviceFault) (flying new_flying : List (Flying Packet)) (board : Board)
+    (old mid new : Contents) (calls : List Call) (list mid_list new_list : Option (List Call)) → IsGeometry switch.geometry → IsPipeOf pipe switch
+    → IsFlight (group_count before) flying → new_before ≡ pipe → new_flying ≡ map flights.kept_now (filter is_present flying)
+    → Grows list calls mid_list → (calls ≡ drained (versions pipe before) old (filter is_old flying)) × (mid ≡ all_made old calls)
+    → Refills (judged switch.geometry switch.outlines (change_of change)) result mid new → EditsTo switch after change result mid_list new_list
+    → IsAirborne (versions_of switch before) switch flying board old
+    → Changes flight_rules (IsAirborne (versions_of after new_before) after new_flying) board change result list new_list new
+changes pipe before new_before switch after change result flying new_flying board old mid new calls list mid_list new_list good of order kept flew grew made fills edits air =
+    let went : Moves (IsAirborne (versions pipe pipe) switch new_flying) (committed board) list mid_list mid =
+    commits pipe before switch flying new_flying board old mid calls list mid_list order flew grew made
+    (subst (λ v. IsAirborne v switch flying board old) (sym (versions_are pipe before switch of)) air) in
+    let olds : All (λ (f : Flying Packet). f.kept ≡ true) new_flying = subst (All (λ (f : Flying Packet). f.kept ≡ true)) (sym flew) (all_old (filter is_present flying)) in
+    subst (λ b. Changes flight_rules (IsAirborne (versions_of after b) after new_flying) board change result list new_list new) (sym kept)
+    (commits_then (IsAirborne (versions_of after pipe) after new_flying) board change result list mid_list new_list new went.made
+    (edits_airborne pipe switch after change result new_flying (committed board).board mid new mid_list new_list good of olds fills edits went.stood))

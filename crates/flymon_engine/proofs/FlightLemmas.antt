@@ -1,6 +1,8 @@
 -- A run with packets in flight writes what the serial run writes, and makes the same operations on each array.
-use Rattle.std.proofs.Common.{◌≡◌, ℕ, zero, suc, ◌+◌, min, List, [], ◌∷◌, ◌++◌, length, filter, refl, ap, ap₂, sym, ◌∙◌, subst, arith, append_assoc, add-one, ⊎_elim}
+use Rattle.std.proofs.Common.{◌≡◌, ℕ, zero, suc, ◌+◌, min, Bool, true, false, cond, Option, List, [], ◌∷◌, ◌++◌, length, filter, refl, ap, ap₂, sym, ◌∙◌, subst, arith, append_assoc, add-one, ⊎_elim}
 use Rattle.std.proofs.lemmas.List.{append-nil}
+use Rattle.std.specs.Prelude.{◌&&◌, is_some, nat_lt}
+use Rattle.capture_read.specs.declared.records.CaptureFault.{CaptureFault}
 use Rattle.reg_file.specs.declared.traits.Call.{Call}
 use Rattle.reg_file.specs.Calls.{is_on}
 use Rattle.pkt_headers.specs.declared.packets.Packet.{Packet}
@@ -10,7 +12,8 @@ use Rattle.flymon_engine.specs.Arrivals.{Arrival, Left}
 use Rattle.flymon_engine.specs.Boards.{Board, lines_in}
 use Rattle.flymon_engine.specs.Serial.{packet_move, serial_rules}
 use Rattle.flymon_engine.specs.Flight.{advanced, advanced_below, entered, flight_pass, flight_rules}
-use Rattle.flymon_engine.specs.Runs.{Run, packets_line, taken_by, pass_one, pass_first, passed, lines_of, done_by, step, carried}
+use Rattle.flymon_engine.specs.Runs.{Run, packets_line, asked_by, taken_by, meets, pass_one, pass_first, passed, lines_of, done_by, step}
+use Rattle.flymon_engine.specs.Going.{going, damage_met}
 use Rattle.flymon_engine.specs.Endings.{beginning, finished}
 use Rattle.flymon_engine.specs.Schedules.{NobodyAt}
 use Rattle.flymon_engine.specs.Laws.{AreAlike, FlightIsSerial}
@@ -119,10 +122,36 @@ step_follows one two work f =
     let done : Follows (done_by flight_rules one work) (done_by serial_rules two work) = done_follows one two work f in
     record { text = ap₂ (λ x y. x ++ y) done.text (lines_follow one two work f); left = done.left; alike = done.alike }
 
-carried_follows : (one two : Run) (works : List Work) → Follows one two → Follows (carried flight_rules one works) (carried serial_rules two works)
-unfolding carried
-carried_follows one two [] f = f
-carried_follows one two (work ∷ works) f = carried_follows (step flight_rules one work) (step serial_rules two work) works (step_follows one two work f)
+meets_alike : (one two : Run) (work : Work) → Follows one two → meets one work ≡ meets two work
+meets_alike one two work f = ap (λ (l : Left). is_some l.fault && nat_lt (length l.list) (asked_by work)) f.left
+
+-- all packets that were left pass, and the next record is damaged
+damage_follows : (one two : Run) (work : Work) → Follows one two → Follows (passed flight_rules one (taken_by one work)) (passed serial_rules two (taken_by two work))
+damage_follows one two work f =
+    subst (λ n. Follows (passed flight_rules one (taken_by one work)) (passed serial_rules two n))
+    (ap (λ (l : Left). min (asked_by work) (length l.list)) f.left) (passed_follows one two (taken_by one work) f)
+
+going_follows : (one two : Run) (works : List Work) → Follows one two → Follows (going flight_rules one works) (going serial_rules two works)
+unfolding going
+going_follows one two [] f = f
+going_follows one two (work ∷ works) f =
+    subst (λ b. Follows (cond (meets one work) (passed flight_rules one (taken_by one work)) (going flight_rules (step flight_rules one work) works))
+    (cond b (passed serial_rules two (taken_by two work)) (going serial_rules (step serial_rules two work) works)))
+    (meets_alike one two work f)
+    (by (going_follows (step flight_rules one work) (step serial_rules two work) works (step_follows one two work f)) (meets one work))
+  where
+    by : Follows (going flight_rules (step flight_rules one work) works) (going serial_rules (step serial_rules two work) works) → (b : Bool)
+        → Follows (cond b (passed flight_rules one (taken_by one work)) (going flight_rules (step flight_rules one work) works))
+        (cond b (passed serial_rules two (taken_by two work)) (going serial_rules (step serial_rules two work) works))
+    by rest true = damage_follows one two work f
+    by rest false = rest
+
+same_damage : (one two : Run) (works : List Work) → Follows one two → damage_met flight_rules one works ≡ damage_met serial_rules two works
+unfolding damage_met
+same_damage one two [] f = refl
+same_damage one two (work ∷ works) f =
+    ap₂ (λ b (fault : Option CaptureFault). cond b fault (damage_met flight_rules (step flight_rules one work) works)) (meets_alike one two work f) (ap (λ (l : Left). l.fault) f.left)
+    ∙ ap (cond (meets two work) two.left.fault) (same_damage (step flight_rules one work) (step serial_rules two work) works (step_follows one two work f))
 
 finished_follows : (one two : Run) → Follows one two → AreAlike (finished flight_rules one) (finished serial_rules two)
 finished_follows one two f = record {
@@ -135,9 +164,5 @@ finished_follows one two f = record {
 pub flight_is_serial : FlightIsSerial
 flight_is_serial profile left works good =
     let start : Run = beginning profile left in
-    finished_follows (carried flight_rules start works) (carried serial_rules start works)
-    (carried_follows start start works (record {
-      text = refl;
-      left = refl;
-      alike = alike_first profile (omega (arith, good.some_groups));
-    }))
+    let first : Follows start start = record { text = refl; left = refl; alike = alike_first profile (omega (arith, good.some_groups)) } in
+    (same_damage start start works first, finished_follows (going flight_rules start works) (going serial_rules start works) (going_follows start start works first))

@@ -187,7 +187,7 @@ advance_calls now before contents front one back both lt above =
 pub advance_alofts : (now before : pipes.Rules) (contents : Contents) (front : List (Flying Packet)) (one : Flying Packet) (back : List (Flying Packet))
     → BothStaged (group_number now.geometry) (versions now before) → one.group < length now.geometry.groups → All (λ (f : Flying Packet). one.group + 1 ≤ f.group) front
     → alofts (versions now before) (all_made contents (calls_next (versions now before) one))
-        (front ++ (orders.if_left (length now.geometry.groups) (flights.moved_on (versions now before) contents one) ++ back))
+    (front ++ (orders.if_left (length now.geometry.groups) (flights.moved_on (versions now before) contents one) ++ back))
     ≡ passed_at now.geometry one.group (alofts (versions now before) contents (front ++ one ∷ back))
 advance_alofts now before contents front one back both lt above =
     alofts_append rules from front (orders.if_left count next ++ back)
@@ -332,9 +332,9 @@ alofts_under one two contents (f ∷ flying) old count kept =
     let K : Flying Packet → Type 0 = λ f. f.kept ≡ true in
     let e = All-head K f flying kept in
     let same : rest_of one contents f ≡ rest_of two contents f =
-        ap (λ b. flow (cond b one.old one.now) contents f.packet (one.count - f.group) f.group f.outs) e
-        ∙ ap₂ (λ (s : Stages Packet) n. flow s contents f.packet (n - f.group) f.group f.outs) old count
-        ∙ ap (λ b. flow (cond b two.old two.now) contents f.packet (two.count - f.group) f.group f.outs) (sym e) in
+    ap (λ b. flow (cond b one.old one.now) contents f.packet (one.count - f.group) f.group f.outs) e
+    ∙ ap₂ (λ (s : Stages Packet) n. flow s contents f.packet (n - f.group) f.group f.outs) old count
+    ∙ ap (λ b. flow (cond b two.old two.now) contents f.packet (two.count - f.group) f.group f.outs) (sym e) in
     ap (λ calls. an_aloft f.group f.kept calls ∷ alofts one (all_made contents calls) flying) same
     ∙ ap (λ fs. aloft two contents f ∷ fs) (alofts_under one two (all_made contents (rest_of two contents f)) flying old count (All-tail K f flying kept))
 

@@ -5,7 +5,7 @@ use Rattle.std.specs.List.{All}
 use Rattle.std.proofs.lemmas.List.{append-nil, append_assoc}
 use Rattle.std.proofs.lemmas.List.Elements.{All-nil, All-cons, All-append, All-weaker}
 use Rattle.outside.specs.Told.{Told, Stays, Grows}
-use Rattle.outside.proofs.ToldLemmas.{grows_none, grows_then, grows_stays, stays_same}
+use Rattle.outside.proofs.ToldLemmas.{told_then, told_weaker, grows_none, grows_then, grows_stays, stays_same}
 use Rattle.addr_translate.specs.Geometry.{Geometry, group_number}
 use Rattle.pkt_headers.specs.declared.packets.Packet.{Packet}
 use Rattle.reg_file.specs.declared.traits.Call.{Call}
@@ -37,13 +37,8 @@ use Rattle.flymon_engine.specs.Serial.{stayed, serial_lays, IsSerial}
 use Rattle.flymon_engine.specs.Flight as model
 use Rattle.flymon_engine.specs.Flight.{with_flying, and_then, advanced, advanced_below, entered, settled, kept_now, is_present, is_kept, calls_left, calls_at, passed_at}
 use Rattle.flymon_engine.specs.Pipelined.{alofts, versions_of, IsPipeOf, IsAirborne, FitsPipelined}
+use Rattle.flymon_engine.proofs.SerialLemmas.{told_here}
 use Rattle.flymon_engine.proofs.FlyingLemmas.{calls_left_are, nobody_calls, nobody_passes, advance_calls, advance_alofts, enter_alofts, old_calls, present_alofts}
-
-pub told_both : {A B : Type 0} {R S : A → B → Type 0} (a : Option A) (b : Option B) → Told R a b → Told S a b → Told (λ x y. R x y × S x y) a b
-told_both None None r s = tt
-told_both (Some x) None r s = tt
-told_both None (Some y) r s = absurd r
-told_both (Some x) (Some y) r s = (r, s)
 
 -- ---- the pipe of a switch
 
@@ -71,11 +66,16 @@ serial_laid switch board contents is = subst (λ k. Layout k board.records conte
 
 -- ---- all pass to the end
 
+-- the registers are then laid out for the board
+landed : (rules : Versions Packet) (switch : SwitchState) (flying : List (Flying Packet)) (board : Board) (old new : Contents) (calls : List Call)
+    → (calls ≡ drained rules old flying) × (new ≡ all_made old calls) → IsAirborne rules switch flying board old → IsSerial switch board new
+landed rules switch flying board old new calls made air = subst (IsSerial switch board) (sym (made.1 ∙ ap (all_made old) made.0)) air.serial
+
 pub settles : (rules : Versions Packet) (switch : SwitchState) (flying : List (Flying Packet)) (board : Board) (old new : Contents) (calls : List Call) (list new_list : Option (List Call))
     → Grows list calls new_list → (calls ≡ drained rules old flying) × (new ≡ all_made old calls) → IsAirborne rules switch flying board old
     → Moves (λ b c. (b.flying ≡ []) × IsSerial switch b c) (settled board) list new_list new
 settles rules switch flying board old new calls list new_list grew made air = record {
-  stood = (refl, serial_flying switch board [] new (subst (IsSerial switch board) (sym (made.1 ∙ ap (all_made old) made.0)) air.serial));
+  stood = (refl, serial_flying switch board [] new (landed rules switch flying board old new calls made air));
   made = subst (λ cs. Grows list cs new_list) (made.0 ∙ sym (calls_left_are rules old flying) ∙ sym (ap calls_left air.flying)) grew;
 }
 
@@ -97,7 +97,7 @@ advances_one pipe before switch group flying new_flying board old new list new_l
     let there : alofts rules old (m.front ++ m.one ∷ m.back) ≡ board.flying = ap (alofts rules old) (sym m.split) ∙ sym air.flying in
     let is_next : moved_with m.one m.outs ≡ flights.moved_on rules old m.one = ap (moved_with m.one) m.makes.told.1 in
     let flew : new_flying ≡ m.front ++ (orders.if_left (group_count pipe) (flights.moved_on rules old m.one) ++ m.back) =
-        m.new_split ∙ ap (λ n. m.front ++ (orders.if_left (group_count pipe) n ++ m.back)) is_next in
+    m.new_split ∙ ap (λ n. m.front ++ (orders.if_left (group_count pipe) n ++ m.back)) is_next in
     record {
       stood = record {
         flying = ap₂ (λ g k. passed_at g k board.flying) profile (sym m.here)
@@ -119,12 +119,13 @@ pub advances_none : (pipe before : pipes.Rules) (switch : SwitchState) (group : 
     → IsAirborne (versions pipe before) switch flying (advanced group board).board contents × ((advanced group board).calls ≡ [])
 advances_none pipe before switch group flying board contents nobody air =
     let rules = versions pipe before in
-    let shape = board.profile.shape in
-    (record {
-      flying = ap (passed_at shape group) air.flying ∙ nobody_passes shape group rules contents flying nobody;
-      serial = serial_flying switch board (passed_at shape group board.flying) (drain rules contents flying) air.serial;
-    },
-    ap (calls_at shape group) air.flying ∙ nobody_calls shape group rules contents flying nobody)
+    let shape = board.profile.shape in (
+      record {
+        flying = ap (passed_at shape group) air.flying ∙ nobody_passes shape group rules contents flying nobody;
+        serial = serial_flying switch board (passed_at shape group board.flying) (drain rules contents flying) air.serial;
+      },
+      ap (calls_at shape group) air.flying ∙ nobody_calls shape group rules contents flying nobody,
+    )
 
 pub moves_none : (pipe before : pipes.Rules) (switch : SwitchState) (group : ℕ) (flying : List (Flying Packet)) (board : Board) (contents : Contents) (list : Option (List Call))
     → NobodyAt group flying → IsAirborne (versions pipe before) switch flying board contents
@@ -139,12 +140,25 @@ pub advance_told : (pipe before : pipes.Rules) (switch : SwitchState) (group : �
     → MovesOn (versions pipe before) group flying new_flying contents new_contents list new_list
     → Told (λ old new. drain (versions pipe before) new new_flying ≡ drain (versions pipe before) old flying) contents new_contents
     → Told (λ old new. (board : Board) → IsAirborne (versions pipe before) switch flying board old
-        → Moves (IsAirborne (versions pipe before) switch new_flying) (advanced group board) list new_list new) contents new_contents
+    → Moves (IsAirborne (versions pipe before) switch new_flying) (advanced group board) list new_list new) contents new_contents
 advance_told pipe before switch group flying new_flying None None list new_list same order shape m drains = tt
 advance_told pipe before switch group flying new_flying (Some old) None list new_list same order shape m drains = tt
 advance_told pipe before switch group flying new_flying None (Some new) list new_list same order shape m drains = absurd drains
 advance_told pipe before switch group flying new_flying (Some old) (Some new) list new_list same order shape m drains =
     λ board air. advances_one pipe before switch group flying new_flying board old new list new_list same order shape m drains air
+
+-- the old rules stay, as a flight tells it
+pub advance_under : (pipe first before new_before : pipes.Rules) (switch : SwitchState) (group : ℕ) (flying new_flying : List (Flying Packet)) (contents new_contents : Option Contents) (list new_list : Option (List Call))
+    → before ≡ first → new_before ≡ before → SameShape before pipe → IsFlight (group_count before) flying → switch.geometry ≡ pipe.geometry
+    → MovesOn (versions pipe before) group flying new_flying contents new_contents list new_list
+    → Told (λ old new. drain (versions pipe new_before) new new_flying ≡ drain (versions pipe before) old flying) contents new_contents
+    → Told (λ old new. (board : Board) → IsAirborne (versions pipe first) switch flying board old
+    → Moves (IsAirborne (versions pipe first) switch new_flying) (advanced group board) list new_list new) contents new_contents
+advance_under pipe first before new_before switch group flying new_flying contents new_contents list new_list e kept same order shape m drains =
+    subst (λ b. Told (λ old new. (board : Board) → IsAirborne (versions pipe b) switch flying board old
+    → Moves (IsAirborne (versions pipe b) switch new_flying) (advanced group board) list new_list new) contents new_contents) e
+    (advance_told pipe before switch group flying new_flying contents new_contents list new_list same order shape m
+    (subst (λ b. Told (λ old new. drain (versions pipe b) new new_flying ≡ drain (versions pipe before) old flying) contents new_contents) kept drains))
 
 falls_under : (high : ℕ) (flying : List (Flying Packet)) → Falls high flying → All (λ (f : Flying Packet). f.group < high) flying
 falls_under high [] falls = All-nil (λ (f : Flying Packet). f.group < high)
@@ -180,8 +194,8 @@ enters pipe before switch packet flying board contents of air =
     let rules = versions pipe before in
     let after = drain rules contents flying in
     let calls : flow (stages_in pipe) after packet (group_count pipe) 0 no_carries ≡ calls_of switch.geometry switch.hash_key packet board.records =
-        ap (λ (g : Geometry). flow (stages_in pipe) after packet (length g.groups) 0 no_carries) of.geometry
-        ∙ calls_for pipe switch board.records packet after of.whole of.geometry of.hash_key of.tables of.groups air.serial.stands in
+    ap (λ (g : Geometry). flow (stages_in pipe) after packet (length g.groups) 0 no_carries) of.geometry
+    ∙ calls_for pipe switch board.records packet after of.whole of.geometry of.hash_key of.tables of.groups air.serial.stands in
     record {
       flying = ap₂ (λ fs cs. fs ++ model.entering cs ∷ []) air.flying
           (sym (calls ∙ ap₂ (λ g k. calls_of g k packet board.records) air.serial.geometry air.serial.hash_key))
@@ -207,10 +221,10 @@ commits pipe before switch flying new_flying board old new calls list new_list o
     let mid : new ≡ drain rules old (filter is_old flying) = made.1 ∙ ap (all_made old) made.0 in
     let presents = filter orders.is_present flying in
     let drains : drain (versions pipe pipe) new new_flying ≡ drain rules old flying =
-        ap₂ (drain (versions pipe pipe)) mid flew
-        ∙ ap (all_made (drain rules old (filter is_old flying))) (commit_drained rules (stages_in pipe) (drain rules old (filter is_old flying)) presents (all_present flying))
-        ∙ sym (drain_append rules old (filter is_old flying) presents)
-        ∙ ap (drain rules old) (sym (old_split flying order.old_first)) in
+    ap₂ (drain (versions pipe pipe)) mid flew
+    ∙ ap (all_made (drain rules old (filter is_old flying))) (commit_drained rules (stages_in pipe) (drain rules old (filter is_old flying)) presents (all_present flying))
+    ∙ sym (drain_append rules old (filter is_old flying) presents)
+    ∙ ap (drain rules old) (sym (old_split flying order.old_first)) in
     record {
       stood = record {
         flying = ap (λ fs. map kept_now (filter is_present fs)) air.flying
@@ -261,6 +275,48 @@ goes_last rules switch flying board count list new_list contents goes =
     subst (λ move. Moves (IsAirborne rules switch flying) move list new_list contents)
     (ap (a_move goes.so_far.board) (sym (append-nil goes.so_far.calls)) ∙ goes.whole) goes.moves
 
+-- the same, where the registers are told
+abbrev pub GoesTold : (pipe before : pipes.Rules) (switch : SwitchState) (start flying : List (Flying Packet)) (board : Board) (left : ℕ) (contents now : Option Contents) (list new_list : Option (List Call)) → Type 0
+GoesTold pipe before switch start flying board left contents now list new_list = Told (λ old new. IsAirborne (versions pipe before) switch start board old
+    → GoesDown (versions pipe before) switch flying board (group_count pipe) left list new_list new) contents now
+
+pub told_first : (pipe before : pipes.Rules) (switch : SwitchState) (flying : List (Flying Packet)) (board : Board) (left : ℕ) (contents : Option Contents) (list : Option (List Call))
+    → left ≡ group_count pipe → GoesTold pipe before switch flying flying board left contents contents list list
+told_first pipe before switch flying board left contents list e =
+    subst (λ n. GoesTold pipe before switch flying flying board n contents contents list list) (sym e)
+    (told_here (λ old new. IsAirborne (versions pipe before) switch flying board old → GoesDown (versions pipe before) switch flying board (group_count pipe) (group_count pipe) list list new)
+    contents (λ d air. goes_first (versions pipe before) switch flying board (group_count pipe) list d air))
+
+pub told_on : (pipe before : pipes.Rules) (switch : SwitchState) (start flying new_flying : List (Flying Packet)) (board : Board) (left group : ℕ) (contents mid new_contents : Option Contents) (list mid_list new_list : Option (List Call))
+    → left ≡ suc group → GoesTold pipe before switch start flying board left contents mid list mid_list
+    → Told (λ old new. (b : Board) → IsAirborne (versions pipe before) switch flying b old → Moves (IsAirborne (versions pipe before) switch new_flying) (advanced group b) mid_list new_list new) mid new_contents
+    → GoesTold pipe before switch start new_flying board group contents new_contents list new_list
+told_on pipe before switch start flying new_flying board left group contents mid new_contents list mid_list new_list e goes step =
+    told_then contents mid new_contents
+    (λ x y z p q air. goes_on (versions pipe before) switch flying new_flying board (group_count pipe) group list mid_list new_list y z
+    (subst (λ n. GoesDown (versions pipe before) switch flying board (group_count pipe) n list mid_list y) e (p air)) q)
+    goes step
+
+pub told_none : (pipe before : pipes.Rules) (switch : SwitchState) (start flying : List (Flying Packet)) (board : Board) (left group : ℕ) (contents now : Option Contents) (list new_list : Option (List Call))
+    → left ≡ suc group → NobodyAt group flying → GoesTold pipe before switch start flying board left contents now list new_list
+    → GoesTold pipe before switch start flying board group contents now list new_list
+told_none pipe before switch start flying board left group contents now list new_list e nobody goes =
+    told_weaker contents now
+    (λ x y p air. goes_on (versions pipe before) switch flying flying board (group_count pipe) group list new_list new_list y y
+    (subst (λ n. GoesDown (versions pipe before) switch flying board (group_count pipe) n list new_list y) e (p air))
+    (λ b. moves_none pipe before switch group flying b y new_list nobody))
+    goes
+
+pub told_last : (pipe before : pipes.Rules) (switch : SwitchState) (start flying : List (Flying Packet)) (board : Board) (left : ℕ) (contents now : Option Contents) (list new_list : Option (List Call))
+    → left ≡ 0 → GoesTold pipe before switch start flying board left contents now list new_list
+    → Told (λ old new. IsAirborne (versions pipe before) switch start board old
+    → Moves (IsAirborne (versions pipe before) switch flying) (advanced_below (group_count pipe) board) list new_list new) contents now
+told_last pipe before switch start flying board left contents now list new_list e goes =
+    told_weaker contents now
+    (λ x y p air. goes_last (versions pipe before) switch flying board (group_count pipe) list new_list y
+    (subst (λ n. GoesDown (versions pipe before) switch flying board (group_count pipe) n list new_list y) e (p air)))
+    goes
+
 -- ---- the calls of the machine
 
 pub passes : (pipe before new_before : pipes.Rules) (switch : SwitchState) (packet : Packet) (flying mid_flying new_flying : List (Flying Packet)) (board : Board) (old new : Contents) (list new_list : Option (List Call))
@@ -272,8 +328,8 @@ passes pipe before new_before switch packet flying mid_flying new_flying board o
     let are = versions_are pipe before switch of in
     let count : group_count pipe ≡ length board.profile.shape.groups = ap (λ (g : Geometry). length g.groups) (of.geometry ∙ air.serial.geometry) in
     let went : Moves (IsAirborne (versions pipe before) switch mid_flying) (advanced_below (length board.profile.shape.groups) board) list new_list new =
-        subst (λ n. Moves (IsAirborne (versions pipe before) switch mid_flying) (advanced_below n board) list new_list new) count
-        (moves (subst (λ v. IsAirborne v switch flying board old) (sym are) air)) in
+    subst (λ n. Moves (IsAirborne (versions pipe before) switch mid_flying) (advanced_below n board) list new_list new) count
+    (moves (subst (λ v. IsAirborne v switch flying board old) (sym are) air)) in
     let below = advanced_below (length board.profile.shape.groups) board in
     record {
       stood = subst (λ fs. IsAirborne (versions_of switch new_before) switch fs (entered packet below.board).board new) (sym flew)
@@ -283,7 +339,23 @@ passes pipe before new_before switch packet flying mid_flying new_flying board o
       made = subst (λ cs. Grows list cs new_list) (sym (append-nil below.calls)) went.made;
     }
 
--- a read-out, or the end: all packets pass first
+pub lands : (pipe before : pipes.Rules) (switch : SwitchState) (flying : List (Flying Packet)) (board : Board) (old new : Contents) (calls : List Call)
+    → IsPipeOf pipe switch → (calls ≡ drained (versions pipe before) old flying) × (new ≡ all_made old calls)
+    → IsAirborne (versions_of switch before) switch flying board old → IsSerial switch board new
+lands pipe before switch flying board old new calls of made air =
+    landed (versions pipe before) switch flying board old new calls made (subst (λ v. IsAirborne v switch flying board old) (sym (versions_are pipe before switch of)) air)
+
+-- the end: all packets pass, and the registers are laid out
+pub finishes : (pipe before : pipes.Rules) (switch : SwitchState) (flying : List (Flying Packet)) (board : Board) (old new : Contents) (calls : List Call) (list new_list : Option (List Call))
+    → IsPipeOf pipe switch → Grows list calls new_list → (calls ≡ drained (versions pipe before) old flying) × (new ≡ all_made old calls)
+    → IsAirborne (versions_of switch before) switch flying board old
+    → Moves serial_lays (settled board) list new_list new
+finishes pipe before switch flying board old new calls list new_list of grew made air =
+    let went = settles (versions pipe before) switch flying board old new calls list new_list grew made
+    (subst (λ v. IsAirborne v switch flying board old) (sym (versions_are pipe before switch of)) air) in
+    record { stood = serial_laid switch (settled board).board new went.stood.1; made = went.made }
+
+-- a read-out: all packets pass first
 pub asks : (pipe before new_before : pipes.Rules) (switch new_switch : SwitchState) (flying new_flying : List (Flying Packet)) (board : Board) (old new : Contents)
     (calls : List Call) (list mid_list new_list : Option (List Call)) → IsPipeOf pipe switch → new_switch ≡ switch → new_flying ≡ []
     → Grows list calls mid_list → (calls ≡ drained (versions pipe before) old flying) × (new ≡ all_made old calls) → Stays mid_list new_list
@@ -291,7 +363,7 @@ pub asks : (pipe before new_before : pipes.Rules) (switch new_switch : SwitchSta
     → Moves (IsAirborne (versions_of new_switch new_before) new_switch new_flying) (settled board) list new_list new
 asks pipe before new_before switch new_switch flying new_flying board old new calls list mid_list new_list of same landed grew made stays air =
     let went = settles (versions pipe before) switch flying board old new calls list mid_list grew made
-        (subst (λ v. IsAirborne v switch flying board old) (sym (versions_are pipe before switch of)) air) in
+    (subst (λ v. IsAirborne v switch flying board old) (sym (versions_are pipe before switch of)) air) in
     record {
       stood = subst (λ s. IsAirborne (versions_of s new_before) s new_flying (settled board).board new) (sym same)
           (subst (λ fs. IsAirborne (versions_of switch new_before) switch fs (settled board).board new) (sym landed)

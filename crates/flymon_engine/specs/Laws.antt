@@ -15,7 +15,7 @@ use Rattle.flymon_engine.specs.Boards.{Board, Rules}
 use Rattle.flymon_engine.specs.ChangeLines.{change_of}
 use Rattle.flymon_engine.specs.Runs.{Run, taken_by, step, carried, lines_of}
 use Rattle.flymon_engine.specs.Stops.{Ends}
-use Rattle.flymon_engine.specs.Going.{AgreesBy}
+use Rattle.flymon_engine.specs.Going.{AgreesBy, going, damage_met}
 use Rattle.flymon_engine.specs.Endings.{beginning, finished}
 use Rattle.flymon_engine.specs.Serial.{serial_rules}
 use Rattle.flymon_engine.specs.Flight.{flight_rules}
@@ -75,7 +75,9 @@ pub record AreAlike (one two : Run) : Type 0 where
   pub left : one.left ≡ two.left
   pub calls : (array : ℕ) → filter (is_on array) one.calls ≡ filter (is_on array) two.calls
 
--- What a run does with packets before different groups at once is what it does with one packet after another.
+-- What a run does with packets before different groups at once, to the end of its commands or to the damage of the capture,
+-- is what it does with one packet after another.
 abbrev pub FlightIsSerial : Type 0
 FlightIsSerial = (profile : Profile) (left : Left) (works : List Work) → IsGeometry profile.shape
-    → AreAlike (finished flight_rules (carried flight_rules (beginning profile left) works)) (finished serial_rules (carried serial_rules (beginning profile left) works))
+    → (damage_met flight_rules (beginning profile left) works ≡ damage_met serial_rules (beginning profile left) works)
+    × AreAlike (finished flight_rules (going flight_rules (beginning profile left) works)) (finished serial_rules (going serial_rules (beginning profile left) works))

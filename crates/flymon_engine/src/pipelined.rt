@@ -106,7 +106,7 @@ fn advance_all<R: RegFile>(flight: &mut Flight, pipe: &Pipe, regs: &mut R)
     ensures moves { (switch : SwitchState) (board : Board) → switch.geometry ≡ pipe.now.geometry → Told (λ old new.
         IsAirborne (versions pipe.now flight.old.before) switch flight.old.flight board old
         → Moves (IsAirborne (versions pipe.now flight.old.before) switch flight.new.flight)
-            (advanced_below (group_count pipe.now) board) (R.calls regs.old) (R.calls regs.new) new) (R.contents regs.old) (R.contents regs.new) }
+        (advanced_below (group_count pipe.now) board) (R.calls regs.old) (R.calls regs.new) new) (R.contents regs.old) (R.contents regs.new) }
 {
     'groups: for group in (0..pipe.shape().group_count()).rev() {
         if !flight.vacant(group) {

@@ -40,28 +40,28 @@ pub fn run<F: Files, R: RegFile, O: Sink, E: Sink>(
     err: &mut E,
 ) -> Status
     ensures ran { Ran (rules_by (form_of (texts_of words.now))) serial_lays (form_of (texts_of words.now)) result
-            (seen F.Files R.RegFile O.Sink files.old regs.old out.old)
-            (seen F.Files R.RegFile O.Sink files.new regs.new out.new)
-            (E.faults err.old) (E.faults err.new) (E.sent err.old) (E.sent err.new) }
+        (seen F.Files R.RegFile O.Sink files.old regs.old out.old)
+        (seen F.Files R.RegFile O.Sink files.new regs.new out.new)
+        (E.faults err.old) (E.faults err.new) (E.sent err.old) (E.sent err.new) }
 
     // what the words and texts determine
     ensures usage { (result ≡ Status.Usage) ↔ (form_of (texts_of words.now) ≡ Wrong) }
     ensures bad_profile { result ≡ Status.BadProfile → HasBadProfile (form_of (texts_of words.now)) (F.directory files.new) (F.slots files.new) }
     ensures bad_script { result ≡ Status.BadScript → HasBadScript (form_of (texts_of words.now)) (F.directory files.new) (F.slots files.new) }
     ensures bad_capture { result ≡ Status.BadCapture → IsDamaged (rules_by (form_of (texts_of words.now))) serial_lays (form_of (texts_of words.now))
-            (seen F.Files R.RegFile O.Sink files.old regs.old out.old)
-            (seen F.Files R.RegFile O.Sink files.new regs.new out.new) }
+        (seen F.Files R.RegFile O.Sink files.old regs.old out.old)
+        (seen F.Files R.RegFile O.Sink files.new regs.new out.new) }
     ensures done { result ≡ Status.Done → GoesAll (rules_by (form_of (texts_of words.now))) serial_lays (form_of (texts_of words.now)) None
-            (seen F.Files R.RegFile O.Sink files.old regs.old out.old)
-            (seen F.Files R.RegFile O.Sink files.new regs.new out.new) }
+        (seen F.Files R.RegFile O.Sink files.old regs.old out.old)
+        (seen F.Files R.RegFile O.Sink files.new regs.new out.new) }
 
     // each fault has its cause and its place
     ensures input { result ≡ Status.InputFault → Rose (F.faults files.old) (F.faults files.new)
         × FailsInPlace (form_of (texts_of words.now)) (F.directory files.new) (F.slots files.new) (F.last files.new) }
     ensures output { result ≡ Status.OutputFault → Rose (O.faults out.old) (O.faults out.new) × HasShaped (form_of (texts_of words.now))
-            (seen F.Files R.RegFile O.Sink files.new regs.new out.new) }
+        (seen F.Files R.RegFile O.Sink files.new regs.new out.new) }
     ensures device { result ≡ Status.DeviceFault → Rose (R.faults regs.old) (R.faults regs.new) × FailsDevice (form_of (texts_of words.now))
-            (seen F.Files R.RegFile O.Sink files.new regs.new out.new) }
+        (seen F.Files R.RegFile O.Sink files.new regs.new out.new) }
     ensures nothing { IsEarly result → Stays (O.sent out.old) (O.sent out.new) × NoCalls (R.calls regs.old) (R.calls regs.new) }
 
     // which files were attached
@@ -69,8 +69,8 @@ pub fn run<F: Files, R: RegFile, O: Sink, E: Sink>(
     ensures names { (result ≡ Status.InputFault → ⊥) → StraysStay (F.directory files.new) (F.strays files.old) (F.strays files.new) }
     ensures stray { result ≡ Status.InputFault → FailsByName (form_of (texts_of words.now)) (F.directory files.new) (F.last files.new) (F.strays files.old) (F.strays files.new) }
     ensures demo { LeavesFiles (form_of (texts_of words.now)) result
-            (seen F.Files R.RegFile O.Sink files.old regs.old out.old)
-            (seen F.Files R.RegFile O.Sink files.new regs.new out.new) }
+        (seen F.Files R.RegFile O.Sink files.old regs.old out.old)
+        (seen F.Files R.RegFile O.Sink files.new regs.new out.new) }
     ensures message { SendsItsMessage result (E.faults err.old) (E.faults err.new) (E.sent err.old) (E.sent err.new) }
 {
     let ended = execute(alloc, words, files, regs, out);
@@ -87,19 +87,15 @@ fn execute<F: Files, R: RegFile, O: Sink>(
     out: &mut O,
 ) -> Result<(), Stop>
     ensures promises { Promises (rules_by (form_of (texts_of words.now))) serial_lays (form_of (texts_of words.now)) result
-            (seen F.Files R.RegFile O.Sink files.old regs.old out.old)
-            (seen F.Files R.RegFile O.Sink files.new regs.new out.new) }
+        (seen F.Files R.RegFile O.Sink files.old regs.old out.old)
+        (seen F.Files R.RegFile O.Sink files.new regs.new out.new) }
     ensures standard { names_profile (form_of (texts_of words.now)) ≡ false → SlotStays (F.slots files.old).profile (F.slots files.new).profile }
 {
     match asked_of(words) {
-        Some(Asked::Carry {
-            way: Way::Replay,
-            names,
-        }) => carry_out::<F, Serial, R, O>(alloc, names, files, regs, out),
-        Some(Asked::Carry {
-            way: Way::Flight,
-            names,
-        }) => carry_out::<F, Pipelined, R, O>(alloc, names, files, regs, out),
+        Some(Asked::Carry { way, names }) => match way {
+            Way::Replay => carry_out::<F, Serial, R, O>(alloc, names, files, regs, out),
+            Way::Flight => carry_out::<F, Pipelined, R, O>(alloc, names, files, regs, out),
+        },
         Some(Asked::Demo { seed, count }) => demo(alloc, seed, count, regs, out),
         None => Err(Stop::Opening(Refusal::Usage)),
     }
@@ -116,8 +112,8 @@ fn demo<R: RegFile, O: Sink>(
     requires { count ≤ 1000000 }
     ensures promises { (files last strays : ℕ) (directory : Directory) (slots : Slots) →
         Promises serial_rules serial_lays (Demo seed count) result
-            (seen_beside R.RegFile O.Sink files last strays directory slots regs.old out.old)
-            (seen_beside R.RegFile O.Sink files last strays directory slots regs.new out.new) }
+        (seen_beside R.RegFile O.Sink files last strays directory slots regs.old out.old)
+        (seen_beside R.RegFile O.Sink files last strays directory slots regs.new out.new) }
 {
     let names = Names {
         profile: "-",
@@ -139,8 +135,8 @@ fn carry_out<F: Files, M: Machine, R: RegFile, O: Sink>(
     out: &mut O,
 ) -> Result<(), Stop>
     ensures promises { (way : Way) → Promises M.rules M.lays (Carry way names.entry.profile.now names.entry.script.now names.entry.capture.now) result
-            (seen F.Files R.RegFile O.Sink files.old regs.old out.old)
-            (seen F.Files R.RegFile O.Sink files.new regs.new out.new) }
+        (seen F.Files R.RegFile O.Sink files.old regs.old out.old)
+        (seen F.Files R.RegFile O.Sink files.new regs.new out.new) }
     ensures standard { is_standard names.entry.profile.now ≡ true → SlotStays (F.slots files.old).profile (F.slots files.new).profile }
     ensures directory { DirectoryStays (F.directory files.old) (F.directory files.new) }
 {
