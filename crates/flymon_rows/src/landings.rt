@@ -130,23 +130,18 @@ fn lands_where_a_file_fails(rt: HostRuntime) -> Result<(), Fail> {
         room: ROOM,
         err_room: ROOM,
     };
-    let mut entered = 0usize;
+    let mut before = 0usize;
     for failing in 1..40u64 {
         let mut regs = TraceFile::new(alloc, 16, Vec::new(alloc))?;
         let files = files_of(alloc, SCRIPT, ROOM)?;
         let ending = fly(alloc, files, vec![in alloc; failing]?, &mut regs, limits)?;
-        // Three operations a packet: the next one has entered where there are more of them.
-        let made = regs.calls().map_or(0, |calls| calls.len());
-        if made > entered * 3 {
-            entered = (entered + 1).min(4);
-        }
-        expect_calls(
-            &rt,
-            alloc,
-            failing,
-            &regs,
-            [NONE, ONE, TWO, THREE, FOUR][entered],
-        )?;
+        // The call comes behind so many packets, of three operations each, and the next one behind as many or one more.
+        let entered = (regs.calls().map_or(0, |calls| calls.len()) / 3).min(4);
+        let next = before <= entered && entered <= before.saturating_add(1);
+        assert!(rt; next, "at {failing}");
+        before = entered;
+        let places = [NONE, ONE, TWO, THREE, FOUR][entered];
+        expect_calls(&rt, alloc, failing, &regs, places)?;
         if ending.status == Status::Done {
             assert_eq!(rt; entered, 4);
             return Ok(());

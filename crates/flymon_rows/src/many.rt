@@ -1,7 +1,7 @@
 //! As many tasks as there are partitions.
 use crate::captures::capture_of;
 use crate::runs::{
-    LIMITS, Limits, PROFILED, WORDS, expect_ending, profiled_files, run_over, session_files,
+    Limits, PROFILED, WORDS, expect_ending, profiled_files, run_over, session_files,
 };
 use flymon_engine::Status;
 use itoa::Buffer;
