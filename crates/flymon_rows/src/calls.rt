@@ -1,10 +1,11 @@
-//! The operations that a run makes on the registers.
+//! The operations that a run makes on the registers, where both ways have the same order.
 use crate::captures::{FIRST, SECOND, Sent, capture_of_packets};
 use crate::runs::{LIMITS, WORDS, run_over, session_files};
 use flymon_engine::Status;
 use reg_file::{Call, TraceFile};
 use stateful_ops::Op;
 use std::alloc::{AllocError, Global};
+use std::process::Abort;
 use std::test::Fail;
 
 /// A packet of no byte on the wire.
@@ -96,6 +97,17 @@ const PASSAGES: [Passage; 9] = [
     ),
 ];
 
+/// Additions of a packet at these arrays and addresses.
+pub(crate) fn additions(alloc: Global, places: &[(u32, u32)]) -> Result<Vec<Call>, AllocError> {
+    let mut calls = Vec::new(alloc);
+    'calls: for place in places {
+        let (array, addr) = *place;
+        let op = ADD_ONE;
+        calls.push(Call { array, addr, op })?;
+    }
+    Ok(calls)
+}
+
 fn calls_of(alloc: Global, places: &[(u32, u32, Op)]) -> Result<Vec<Call>, AllocError> {
     let mut calls = Vec::new(alloc);
     'calls: for place in places {
@@ -105,20 +117,37 @@ fn calls_of(alloc: Global, places: &[(u32, u32, Op)]) -> Result<Vec<Call>, Alloc
     Ok(calls)
 }
 
+/// Aborts unless the packets make these operations.
+fn expect_passage(
+    rt: &impl Abort,
+    alloc: Global,
+    words: &str,
+    passage: Passage,
+) -> Result<(), AllocError> {
+    let (task, packets, wanted) = passage;
+    let mut script = String::from_str(alloc, "add t ")?;
+    script.push_str(task)?;
+    script.push_str("\nrun\nread t\n")?;
+    let capture = capture_of_packets(alloc, packets)?;
+    let files = session_files(alloc, script.as_bytes(), capture)?;
+    let mut regs = TraceFile::new(alloc, 4, Vec::new(alloc))?;
+    let ending = run_over(alloc, words, files, &mut regs, LIMITS)?;
+    assert_eq!(rt; ending.status, Status::Done, "at {words}, {task:?}");
+    let calls = calls_of(alloc, wanted)?;
+    assert_eq!(rt;
+        regs.calls(),
+        Some(calls.as_slice()),
+        "at {words}, {task:?}"
+    );
+    Ok(())
+}
+
 #[test]
 fn makes_one_operation_a_row(rt: HostRuntime) -> Result<(), Fail> {
-    let alloc = rt.alloc();
-    for (task, packets, wanted) in PASSAGES {
-        let mut script = String::from_str(alloc, "add t ")?;
-        script.push_str(task)?;
-        script.push_str("\nrun\nread t\n")?;
-        let capture = capture_of_packets(alloc, packets)?;
-        let files = session_files(alloc, script.as_bytes(), capture)?;
-        let mut regs = TraceFile::new(alloc, 4, Vec::new(alloc))?;
-        let ending = run_over(alloc, WORDS, files, &mut regs, LIMITS)?;
-        assert_eq!(rt; ending.status, Status::Done, "at {task:?}");
-        let calls = calls_of(alloc, wanted)?;
-        assert_eq!(rt; regs.calls(), Some(calls.as_slice()), "at {task:?}");
+    for words in WORDS {
+        for passage in PASSAGES {
+            expect_passage(&rt, rt.alloc(), words, passage)?;
+        }
     }
     Ok(())
 }

@@ -23,24 +23,26 @@ const DAMAGES: [(usize, usize, u8, &str, &str); 6] = [
 fn stops_at_the_damage(rt: HostRuntime) -> Result<(), Fail> {
     let alloc = rt.alloc();
     for (kept, at, byte, out, message) in DAMAGES {
-        let mut capture = capture_of(alloc, &[1, 1, 1])?;
-        if let Some(place) = capture.get_mut(at) {
-            *place = byte;
-        }
-        capture.truncate(kept);
-        let files = session_files(alloc, ADD_AND_RUN, capture)?;
-        let ending = run_over(alloc, WORDS, files, &mut RamFile::new(), LIMITS)?;
         let mut line = String::from_str(alloc, "bad capture: ")?;
         line.push_str(message)?;
         line.push_str("\n")?;
-        expect_ending(
-            &rt,
-            &message,
-            &ending,
-            Status::BadCapture,
-            out.as_bytes(),
-            line.as_bytes(),
-        );
+        for words in WORDS {
+            let mut capture = capture_of(alloc, &[1, 1, 1])?;
+            if let Some(place) = capture.get_mut(at) {
+                *place = byte;
+            }
+            capture.truncate(kept);
+            let files = session_files(alloc, ADD_AND_RUN, capture)?;
+            let ending = run_over(alloc, words, files, &mut RamFile::new(), LIMITS)?;
+            expect_ending(
+                &rt,
+                &(words, message),
+                &ending,
+                Status::BadCapture,
+                out.as_bytes(),
+                line.as_bytes(),
+            );
+        }
     }
     assert_eq!(rt; Status::BadCapture.code(), 5);
     Ok(())
@@ -103,18 +105,20 @@ const ENDINGS: [(&str, usize, Status, &str, &str); 7] = [
 fn writes_up_to_the_damage(rt: HostRuntime) -> Result<(), Fail> {
     let alloc = rt.alloc();
     for (script, kept, status, out, message) in ENDINGS {
-        let mut capture = capture_of(alloc, &[1, 1, 1])?;
-        capture.truncate(kept);
-        let files = session_files(alloc, script.as_bytes(), capture)?;
-        let ending = run_over(alloc, WORDS, files, &mut RamFile::new(), LIMITS)?;
-        expect_ending(
-            &rt,
-            &script,
-            &ending,
-            status,
-            out.as_bytes(),
-            message.as_bytes(),
-        );
+        for words in WORDS {
+            let mut capture = capture_of(alloc, &[1, 1, 1])?;
+            capture.truncate(kept);
+            let files = session_files(alloc, script.as_bytes(), capture)?;
+            let ending = run_over(alloc, words, files, &mut RamFile::new(), LIMITS)?;
+            expect_ending(
+                &rt,
+                &(words, script),
+                &ending,
+                status,
+                out.as_bytes(),
+                message.as_bytes(),
+            );
+        }
     }
     Ok(())
 }
@@ -122,18 +126,20 @@ fn writes_up_to_the_damage(rt: HostRuntime) -> Result<(), Fail> {
 #[test]
 fn counts_up_to_the_damage(rt: HostRuntime) -> Result<(), Fail> {
     let alloc = rt.alloc();
-    let mut capture = capture_of(alloc, &[1, 2, 1])?;
-    capture.truncate(200);
-    let files = session_files(alloc, ADD_AND_RUN, capture)?;
-    let mut regs = TraceFile::new(alloc, 4, Vec::new(alloc))?;
-    let ending = run_over(alloc, WORDS, files, &mut regs, LIMITS)?;
-    assert_eq!(rt; ending.status, Status::BadCapture);
     let op = Op::CondAdd {
         p1: 1,
         p2: 4_294_967_295,
     };
     let calls = [18, 1].map(|addr| Call { array: 0, addr, op });
-    assert_eq!(rt; regs.calls(), Some(calls.as_slice()));
+    for words in WORDS {
+        let mut capture = capture_of(alloc, &[1, 2, 1])?;
+        capture.truncate(200);
+        let files = session_files(alloc, ADD_AND_RUN, capture)?;
+        let mut regs = TraceFile::new(alloc, 4, Vec::new(alloc))?;
+        let ending = run_over(alloc, words, files, &mut regs, LIMITS)?;
+        assert_eq!(rt; ending.status, Status::BadCapture, "at {words}");
+        assert_eq!(rt; regs.calls(), Some(calls.as_slice()), "at {words}");
+    }
     Ok(())
 }
 
@@ -155,19 +161,21 @@ fn cut_to(kept: usize) -> (Status, &'static str, &'static str) {
 fn tells_each_cut(rt: HostRuntime) -> Result<(), Fail> {
     let alloc = rt.alloc();
     for kept in 0..95usize {
-        let mut capture = capture_of(alloc, &[1])?;
-        capture.truncate(kept);
-        let files = session_files(alloc, ADD_AND_RUN, capture)?;
-        let ending = run_over(alloc, WORDS, files, &mut RamFile::new(), LIMITS)?;
         let (status, out, message) = cut_to(kept);
-        expect_ending(
-            &rt,
-            &kept,
-            &ending,
-            status,
-            out.as_bytes(),
-            message.as_bytes(),
-        );
+        for words in WORDS {
+            let mut capture = capture_of(alloc, &[1])?;
+            capture.truncate(kept);
+            let files = session_files(alloc, ADD_AND_RUN, capture)?;
+            let ending = run_over(alloc, words, files, &mut RamFile::new(), LIMITS)?;
+            expect_ending(
+                &rt,
+                &(words, kept),
+                &ending,
+                status,
+                out.as_bytes(),
+                message.as_bytes(),
+            );
+        }
     }
     Ok(())
 }
@@ -186,20 +194,22 @@ const LENGTHS: [(u32, &str); 3] = [
 fn believes_no_length(rt: HostRuntime) -> Result<(), Fail> {
     let alloc = rt.alloc();
     for (length, message) in LENGTHS {
-        let whole = capture_of(alloc, &[1])?;
-        let mut capture = Vec::from_slice(alloc, &whole[..whole.len().min(32)])?;
-        capture.extend_from_slice(&length.to_le_bytes())?;
-        capture.extend_from_slice(&whole[whole.len().min(36)..])?;
-        let files = session_files(alloc, ADD_AND_RUN, capture)?;
-        let ending = run_over(alloc, WORDS, files, &mut RamFile::new(), LIMITS)?;
-        expect_ending(
-            &rt,
-            &length,
-            &ending,
-            Status::BadCapture,
-            b"added hot\n",
-            message.as_bytes(),
-        );
+        for words in WORDS {
+            let whole = capture_of(alloc, &[1])?;
+            let mut capture = Vec::from_slice(alloc, &whole[..whole.len().min(32)])?;
+            capture.extend_from_slice(&length.to_le_bytes())?;
+            capture.extend_from_slice(&whole[whole.len().min(36)..])?;
+            let files = session_files(alloc, ADD_AND_RUN, capture)?;
+            let ending = run_over(alloc, words, files, &mut RamFile::new(), LIMITS)?;
+            expect_ending(
+                &rt,
+                &(words, length),
+                &ending,
+                Status::BadCapture,
+                b"added hot\n",
+                message.as_bytes(),
+            );
+        }
     }
     Ok(())
 }

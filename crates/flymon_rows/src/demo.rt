@@ -2,6 +2,7 @@
 ghost use Rattle.std.specs.Prelude.{◌<◌};
 
 use crate::runs::{Ending, Limits, expect_ending, run_over};
+use crate::scripts::USAGE;
 use flymon_engine::Status;
 use reg_file::RamFile;
 use std::alloc::{AllocError, Global};
@@ -81,7 +82,7 @@ fn wants_a_seed_and_a_count(rt: HostRuntime) -> Result<(), Fail> {
             &demo_over(alloc, words)?,
             Status::Usage,
             b"",
-            b"usage: flymon replay PROFILE SCRIPT CAPTURE | flymon demo SEED COUNT\n",
+            USAGE.as_bytes(),
         );
     }
     Ok(())

@@ -20,6 +20,10 @@ mod device;
 #[cfg(test)]
 mod faults;
 #[cfg(test)]
+mod flights;
+#[cfg(test)]
+mod landings;
+#[cfg(test)]
 mod many;
 #[cfg(test)]
 mod placement;

@@ -97,27 +97,22 @@ fn serves_a_task_for_each_partition(rt: HostRuntime) -> Result<(), Fail> {
     script.push_str("stat\nshow\n")?;
     out.push_str(UNUSED)?;
     out.push_str("tasks 0\nend\n")?;
-    let files = session_files(alloc, script.as_bytes(), capture_of(alloc, &[])?)?;
-    let ending = run_over(alloc, WORDS, files, &mut RamFile::new(), GREAT)?;
-    expect_ending(
-        &rt,
-        &"288 tasks",
-        &ending,
-        Status::Done,
-        out.as_bytes(),
-        b"",
-    );
+    for words in WORDS {
+        let files = session_files(alloc, script.as_bytes(), capture_of(alloc, &[])?)?;
+        let ending = run_over(alloc, words, files, &mut RamFile::new(), GREAT)?;
+        expect_ending(&rt, &words, &ending, Status::Done, out.as_bytes(), b"");
+    }
+    Ok(())
+}
 
+#[test]
+fn serves_a_task_for_each_register(rt: HostRuntime) -> Result<(), Fail> {
+    let alloc = rt.alloc();
     let Lines { script, out } = all_tasks(alloc, 1024, "1")?;
-    let files = profiled_files(alloc, FINE, script.as_bytes(), capture_of(alloc, &[])?)?;
-    let ending = run_over(alloc, PROFILED, files, &mut RamFile::new(), GREAT)?;
-    expect_ending(
-        &rt,
-        &"1024 tasks",
-        &ending,
-        Status::Done,
-        out.as_bytes(),
-        b"",
-    );
+    for words in PROFILED {
+        let files = profiled_files(alloc, FINE, script.as_bytes(), capture_of(alloc, &[])?)?;
+        let ending = run_over(alloc, words, files, &mut RamFile::new(), GREAT)?;
+        expect_ending(&rt, &words, &ending, Status::Done, out.as_bytes(), b"");
+    }
     Ok(())
 }

@@ -14,7 +14,8 @@ const TWO_ARRAYS: &str = "version = 1\ngroups = 1\ncmus = 2\nunits = 1\nlog_regi
 const THREE_ARRAYS: &str = "version = 1\ngroups = 1\ncmus = 3\nunits = 2\nlog_registers = 5\n";
 
 /// Three groups of one array of 32 registers and one hash unit each.
-const THREE_GROUPS: &str = "version = 1\ngroups = 3\ncmus = 1\nunits = 1\nlog_registers = 5\n";
+pub(crate) const THREE_GROUPS: &str =
+    "version = 1\ngroups = 3\ncmus = 1\nunits = 1\nlog_registers = 5\n";
 
 /// Two groups of one array and one hash unit each, with arrays of 32 and 64 registers.
 const TWO_SHAPES: &str = "version = 2\nlog_blocks = 5\n\
@@ -204,11 +205,6 @@ add third cms 1 key=src_ip attr=packets filter=all memory=32\nrun\n";
 #[test]
 fn makes_one_operation_an_array(rt: HostRuntime) -> Result<(), Fail> {
     let alloc = rt.alloc();
-    let capture = capture_of_packets(alloc, &LOW_AND_HIGH)?;
-    let files = session_files(alloc, SHARED.as_bytes(), capture)?;
-    let mut regs = TraceFile::new(alloc, 8, Vec::new(alloc))?;
-    let ending = run_over(alloc, WORDS, files, &mut regs, LIMITS)?;
-    assert_eq!(rt; ending.status, Status::Done);
     let calls = [(0, 18, 1), (1, 18, 1), (0, 57, 100), (1, 25, 1)].map(|(array, addr, p1)| Call {
         array,
         addr,
@@ -217,6 +213,13 @@ fn makes_one_operation_an_array(rt: HostRuntime) -> Result<(), Fail> {
             p2: 4_294_967_295,
         },
     });
-    assert_eq!(rt; regs.calls(), Some(calls.as_slice()));
+    for words in WORDS {
+        let capture = capture_of_packets(alloc, &LOW_AND_HIGH)?;
+        let files = session_files(alloc, SHARED.as_bytes(), capture)?;
+        let mut regs = TraceFile::new(alloc, 8, Vec::new(alloc))?;
+        let ending = run_over(alloc, words, files, &mut regs, LIMITS)?;
+        assert_eq!(rt; ending.status, Status::Done, "at {words}");
+        assert_eq!(rt; regs.calls(), Some(calls.as_slice()), "at {words}");
+    }
     Ok(())
 }

@@ -59,19 +59,21 @@ const FAULTS: [(&str, &str); 16] = [
 fn names_the_fault_of_a_profile(rt: HostRuntime) -> Result<(), Fail> {
     let alloc = rt.alloc();
     for (profile, fault) in FAULTS {
-        let files = profiled_files(alloc, profile, b"rum\n", capture_of(alloc, &[])?)?;
-        let ending = run_over(alloc, PROFILED, files, &mut RamFile::new(), LIMITS)?;
         let mut message = String::from_str(alloc, "bad profile: ")?;
         message.push_str(fault)?;
         message.push_str("\n")?;
-        expect_ending(
-            &rt,
-            &profile,
-            &ending,
-            Status::BadProfile,
-            b"",
-            message.as_bytes(),
-        );
+        for words in PROFILED {
+            let files = profiled_files(alloc, profile, b"rum\n", capture_of(alloc, &[])?)?;
+            let ending = run_over(alloc, words, files, &mut RamFile::new(), LIMITS)?;
+            expect_ending(
+                &rt,
+                &(words, profile),
+                &ending,
+                Status::BadProfile,
+                b"",
+                message.as_bytes(),
+            );
+        }
     }
     assert_eq!(rt; Status::BadProfile.code(), 3);
     Ok(())
@@ -93,16 +95,18 @@ fn judges_long_profiles(rt: HostRuntime) -> Result<(), Fail> {
         'blanks: for _ in 0..blank {
             profile.push_str(" ")?;
         }
-        let files = profiled_files(alloc, &profile, b"run\n", capture_of(alloc, &[])?)?;
-        let ending = run_over(alloc, PROFILED, files, &mut RamFile::new(), limits)?;
-        expect_ending(
-            &rt,
-            &blank,
-            &ending,
-            Status::BadProfile,
-            b"",
-            message.as_bytes(),
-        );
+        for words in PROFILED {
+            let files = profiled_files(alloc, &profile, b"run\n", capture_of(alloc, &[])?)?;
+            let ending = run_over(alloc, words, files, &mut RamFile::new(), limits)?;
+            expect_ending(
+                &rt,
+                &(words, blank),
+                &ending,
+                Status::BadProfile,
+                b"",
+                message.as_bytes(),
+            );
+        }
     }
     Ok(())
 }

@@ -1,6 +1,8 @@
 //! Sessions that are carried out to their end.
 use crate::captures::{big_capture_of, capture_of};
-use crate::runs::{LIMITS, Limits, ROOM, SCRIPT, WORDS, expect_ending, run_over, session_files};
+use crate::runs::{
+    Limits, ROOM, SCRIPT, WORDS, expect_done_over, expect_ending, run_over, session_files,
+};
 use flymon_engine::Status;
 use reg_file::RamFile;
 use std::test::Fail;
@@ -9,21 +11,23 @@ use std::test::Fail;
 fn counts_packets_by_source(rt: HostRuntime) -> Result<(), Fail> {
     let alloc = rt.alloc();
     for piece in [1usize, 7, 4096] {
-        let files = session_files(alloc, SCRIPT.as_bytes(), capture_of(alloc, &[1, 1, 2, 1])?)?;
         let limits = Limits {
             piece,
             room: ROOM,
             err_room: ROOM,
         };
-        let ending = run_over(alloc, WORDS, files, &mut RamFile::new(), limits)?;
-        expect_ending(
-            &rt,
-            &piece,
-            &ending,
-            Status::Done,
-            b"added hot\npackets 4\nread hot rows 1 size 32 start 0\ncell 0 1 1\ncell 0 18 3\nend\nquery hot 3\n",
-            b"",
-        );
+        for words in WORDS {
+            let files = session_files(alloc, SCRIPT.as_bytes(), capture_of(alloc, &[1, 1, 2, 1])?)?;
+            let ending = run_over(alloc, words, files, &mut RamFile::new(), limits)?;
+            expect_ending(
+                &rt,
+                &(words, piece),
+                &ending,
+                Status::Done,
+                b"added hot\npackets 4\nread hot rows 1 size 32 start 0\ncell 0 1 1\ncell 0 18 3\nend\nquery hot 3\n",
+                b"",
+            );
+        }
     }
     Ok(())
 }
@@ -31,20 +35,14 @@ fn counts_packets_by_source(rt: HostRuntime) -> Result<(), Fail> {
 #[test]
 fn counts_packets_of_a_big_endian_capture(rt: HostRuntime) -> Result<(), Fail> {
     let alloc = rt.alloc();
-    let files = session_files(
-        alloc,
-        SCRIPT.as_bytes(),
-        big_capture_of(alloc, &[1, 1, 2, 1])?,
-    )?;
-    let ending = run_over(alloc, WORDS, files, &mut RamFile::new(), LIMITS)?;
-    expect_ending(
+    let capture = big_capture_of(alloc, &[1, 1, 2, 1])?;
+    expect_done_over(
         &rt,
-        &"big-endian",
-        &ending,
-        Status::Done,
-        b"added hot\npackets 4\nread hot rows 1 size 32 start 0\ncell 0 1 1\ncell 0 18 3\nend\nquery hot 3\n",
-        b"",
-    );
+        alloc,
+        SCRIPT,
+        &capture,
+        "added hot\npackets 4\nread hot rows 1 size 32 start 0\ncell 0 1 1\ncell 0 18 3\nend\nquery hot 3\n",
+    )?;
     Ok(())
 }
 
@@ -63,17 +61,14 @@ fn counts_any_frame(rt: HostRuntime) -> Result<(), Fail> {
     if let Some(place) = capture.get_mut(22) {
         *place = 1;
     }
-    let files = session_files(alloc, SCRIPT.as_bytes(), capture)?;
-    let ending = run_over(alloc, WORDS, files, &mut RamFile::new(), LIMITS)?;
     // A frame without an IPv4 header has no source, and the hash of nothing is 0.
-    expect_ending(
+    expect_done_over(
         &rt,
-        &"other frames",
-        &ending,
-        Status::Done,
-        b"added hot\npackets 2\nread hot rows 1 size 32 start 0\ncell 0 0 1\ncell 0 18 1\nend\nquery hot 1\n",
-        b"",
-    );
+        alloc,
+        SCRIPT,
+        &capture,
+        "added hot\npackets 2\nread hot rows 1 size 32 start 0\ncell 0 0 1\ncell 0 18 1\nend\nquery hot 1\n",
+    )?;
     Ok(())
 }
 
@@ -86,41 +81,36 @@ const IPV6_RECORD: &[u8; 90] = b"\x00\x00\x00\x00\x00\x00\x00\x00\x4a\x00\x00\x0
 \x04\x00\x00\x50\x00\x00\x00\x00\x00\x00\x00\x00\x50\x02\x00\x00\x00\x00\x00\x00";
 
 /// A script that counts packets by their IPv6 source, behind a filter of a prefix.
-const IPV6_SCRIPT: &[u8] =
-    b"add six cms 1 key=src_ip6 attr=packets filter=src_ip6:2001:db8::/32 memory=32\nrun\nread six\nquery six src_ip6:2001:DB8::1\nshow\n";
+const IPV6_SCRIPT: &str =
+    "add six cms 1 key=src_ip6 attr=packets filter=src_ip6:2001:db8::/32 memory=32\nrun\nread six\nquery six src_ip6:2001:DB8::1\nshow\n";
 
 #[test]
 fn counts_packets_by_ipv6_source(rt: HostRuntime) -> Result<(), Fail> {
     let alloc = rt.alloc();
     let mut capture = capture_of(alloc, &[1])?;
     capture.extend_from_slice(IPV6_RECORD)?;
-    let files = session_files(alloc, IPV6_SCRIPT, capture)?;
-    let ending = run_over(alloc, WORDS, files, &mut RamFile::new(), LIMITS)?;
-    expect_ending(
+    expect_done_over(
         &rt,
-        &"IPv6",
-        &ending,
-        Status::Done,
-        b"added six\npackets 2\nread six rows 1 size 32 start 0\ncell 0 8 1\nend\nquery six 1\ntasks 1\n\
+        alloc,
+        IPV6_SCRIPT,
+        &capture,
+        "added six\npackets 2\nread six rows 1 size 32 start 0\ncell 0 8 1\nend\nquery six 1\ntasks 1\n\
 task six cms 1 key=src_ip6 attr=packets filter=src_ip6:2001:db8:0:0:0:0:0:0/32 memory=32\n\
 row 0 group 0 cmu 0 base 0 size 32 keys 0\nend\n",
-        b"",
-    );
+    )?;
     Ok(())
 }
 
 #[test]
 fn counts_no_packet(rt: HostRuntime) -> Result<(), Fail> {
     let alloc = rt.alloc();
-    let files = session_files(alloc, SCRIPT.as_bytes(), capture_of(alloc, &[])?)?;
-    let ending = run_over(alloc, WORDS, files, &mut RamFile::new(), LIMITS)?;
-    expect_ending(
+    let capture = capture_of(alloc, &[])?;
+    expect_done_over(
         &rt,
-        &"no packet",
-        &ending,
-        Status::Done,
-        b"added hot\npackets 0\nread hot rows 1 size 32 start 0\nend\nquery hot 0\n",
-        b"",
-    );
+        alloc,
+        SCRIPT,
+        &capture,
+        "added hot\npackets 0\nread hot rows 1 size 32 start 0\nend\nquery hot 0\n",
+    )?;
     Ok(())
 }

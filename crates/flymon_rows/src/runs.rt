@@ -23,11 +23,18 @@ pub(crate) const LIMITS: Limits = Limits {
     err_room: ROOM,
 };
 
-/// The words of a run of the files that `session_files` makes.
-pub(crate) const WORDS: &str = "replay - S C";
+/// The ways of packets: one after another, and before several groups at once.
+pub(crate) const WAYS: [&str; 2] = ["replay", "flight"];
+
+/// The words of a run of the files that `session_files` makes, in each way.
+pub(crate) const REPLAY: &str = "replay - S C";
+
+pub(crate) const FLIGHT: &str = "flight - S C";
+
+pub(crate) const WORDS: [&str; 2] = [REPLAY, FLIGHT];
 
 /// The same with the profile that `profiled_files` adds.
-pub(crate) const PROFILED: &str = "replay P S C";
+pub(crate) const PROFILED: [&str; 2] = ["replay P S C", "flight P S C"];
 
 /// At most `piece` bytes are read or written at once; `out` and `err` have room for so many.
 #[derive(Clone, Copy)]
@@ -131,10 +138,28 @@ pub(crate) fn expect_ending(
     assert_eq!(rt; ending.err.sent(), err, "at {case:?}");
 }
 
+/// Aborts unless the script is carried out to its end over this capture, and writes this, in each way.
+pub(crate) fn expect_done_over(
+    rt: &impl Abort,
+    alloc: Global,
+    script: &str,
+    capture: &[u8],
+    out: &str,
+) -> Result<(), AllocError> {
+    'ways: for words in WORDS {
+        let capture = Vec::from_slice(alloc, capture)?;
+        let files = session_files(alloc, script.as_bytes(), capture)?;
+        let ending = run_over(alloc, words, files, &mut RamFile::new(), LIMITS)?;
+        let case = (words, script);
+        expect_ending(rt, &case, &ending, Status::Done, out.as_bytes(), b"");
+    }
+    Ok(())
+}
+
 /// A script, the packets of its capture, and what the run writes.
 pub(crate) type Session = (&'static str, &'static [Sent], &'static str);
 
-/// Aborts unless the script is carried out to its end over a capture of these packets, and writes this.
+/// Aborts unless the script is carried out to its end over a capture of these packets, and writes this, in each way.
 pub(crate) fn expect_done(
     rt: &impl Abort,
     alloc: Global,
@@ -142,10 +167,7 @@ pub(crate) fn expect_done(
 ) -> Result<(), AllocError> {
     let (script, packets, out) = session;
     let capture = capture_of_packets(alloc, packets)?;
-    let files = session_files(alloc, script.as_bytes(), capture)?;
-    let ending = run_over(alloc, WORDS, files, &mut RamFile::new(), LIMITS)?;
-    expect_ending(rt, &script, &ending, Status::Done, out.as_bytes(), b"");
-    Ok(())
+    expect_done_over(rt, alloc, script, &capture, out)
 }
 
 /// The same for the switch of a profile.
@@ -156,9 +178,12 @@ pub(crate) fn expect_done_on(
     session: Session,
 ) -> Result<(), AllocError> {
     let (script, packets, out) = session;
-    let capture = capture_of_packets(alloc, packets)?;
-    let files = profiled_files(alloc, profile, script.as_bytes(), capture)?;
-    let ending = run_over(alloc, PROFILED, files, &mut RamFile::new(), LIMITS)?;
-    expect_ending(rt, &script, &ending, Status::Done, out.as_bytes(), b"");
+    'ways: for words in PROFILED {
+        let capture = capture_of_packets(alloc, packets)?;
+        let files = profiled_files(alloc, profile, script.as_bytes(), capture)?;
+        let ending = run_over(alloc, words, files, &mut RamFile::new(), LIMITS)?;
+        let case = (words, script);
+        expect_ending(rt, &case, &ending, Status::Done, out.as_bytes(), b"");
+    }
     Ok(())
 }

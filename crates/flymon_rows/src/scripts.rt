@@ -1,10 +1,12 @@
 //! Scripts at fault, and the order in which the opening looks at words, files and texts.
 use crate::captures::capture_of;
 use crate::runs::{
-    LIMITS, Limits, ROOM, WORDS, expect_ending, profiled_files, run_over, session_files,
+    Ending, LIMITS, Limits, ROOM, WAYS, WORDS, expect_ending, profiled_files, run_over,
+    session_files,
 };
 use flymon_engine::Status;
 use reg_file::RamFile;
+use std::alloc::{AllocError, Global};
 use std::test::Fail;
 
 /// Scripts, and what the message says of them.
@@ -73,111 +75,107 @@ const FAULTS: [(&str, &str); 25] = [
 fn names_the_fault_of_a_script(rt: HostRuntime) -> Result<(), Fail> {
     let alloc = rt.alloc();
     for (script, fault) in FAULTS {
-        let files = session_files(alloc, script.as_bytes(), capture_of(alloc, &[1])?)?;
-        let ending = run_over(alloc, WORDS, files, &mut RamFile::new(), LIMITS)?;
         let mut message = String::from_str(alloc, "bad script line ")?;
         message.push_str(fault)?;
         message.push_str("\n")?;
-        expect_ending(
-            &rt,
-            &script,
-            &ending,
-            Status::BadScript,
-            b"",
-            message.as_bytes(),
-        );
+        for words in WORDS {
+            let files = session_files(alloc, script.as_bytes(), capture_of(alloc, &[1])?)?;
+            let ending = run_over(alloc, words, files, &mut RamFile::new(), LIMITS)?;
+            expect_ending(
+                &rt,
+                &(words, script),
+                &ending,
+                Status::BadScript,
+                b"",
+                message.as_bytes(),
+            );
+        }
     }
     assert_eq!(rt; Status::BadScript.code(), 4);
     Ok(())
 }
 
-/// Words, a script under the name `S`, and how the run ends over a profile `P` that is no TOML and a capture `C` of
-/// 23 bytes.
-const ORDERS: [(&str, &str, Status, &str); 17] = [
-    ("", BAD, Status::Usage, USAGE),
-    ("replay a b", BAD, Status::Usage, USAGE),
-    ("replay - S C S", GOOD, Status::Usage, USAGE),
-    ("show - S C", GOOD, Status::Usage, USAGE),
-    ("demo 0 1000001", GOOD, Status::Usage, USAGE),
-    ("demo 18446744073709551616 1", GOOD, Status::Usage, USAGE),
-    ("demo 0 x", GOOD, Status::Usage, USAGE),
+/// Words that ask for nothing, and a script under the name `S`.
+const WRONG: [(&str, &str); 11] = [
+    ("", BAD),
+    ("replay a b", BAD),
+    ("flight a b", BAD),
+    ("flight", GOOD),
+    ("replay - S C S", GOOD),
+    ("flight - S C S", GOOD),
+    ("flights - S C", GOOD),
+    ("show - S C", GOOD),
+    ("demo 0 1000001", GOOD),
+    ("demo 18446744073709551616 1", GOOD),
+    ("demo 0 x", GOOD),
+];
+
+/// The words behind the way, a script under the name `S`, and how the run ends over a profile `P` that is no TOML and a
+/// capture `C` of 23 bytes.
+const ORDERS: [(&str, &str, Status, &str); 10] = [
+    (" x X X", GOOD, Status::InputFault, "input fault: profile\n"),
+    (" x S C", BAD, Status::InputFault, "input fault: profile\n"),
     (
-        "replay x X X",
-        GOOD,
-        Status::InputFault,
-        "input fault: profile\n",
-    ),
-    (
-        "replay x S C",
-        BAD,
-        Status::InputFault,
-        "input fault: profile\n",
-    ),
-    (
-        "replay P X X",
+        " P X X",
         GOOD,
         Status::BadProfile,
         "bad profile: not toml\n",
     ),
+    (" P S C", BAD, Status::BadProfile, "bad profile: not toml\n"),
+    (" - X C", GOOD, Status::InputFault, "input fault: script\n"),
     (
-        "replay P S C",
-        BAD,
-        Status::BadProfile,
-        "bad profile: not toml\n",
-    ),
-    (
-        "replay - X C",
-        GOOD,
-        Status::InputFault,
-        "input fault: script\n",
-    ),
-    (
-        "replay - S X",
+        " - S X",
         BAD,
         Status::BadScript,
         "bad script line 1: command\n",
     ),
     (
-        "replay - S C",
+        " - S C",
         BAD,
         Status::BadScript,
         "bad script line 1: command\n",
     ),
+    (" - S X", "", Status::InputFault, "input fault: capture\n"),
+    (" - S X", GOOD, Status::InputFault, "input fault: capture\n"),
     (
-        "replay - S X",
-        "",
-        Status::InputFault,
-        "input fault: capture\n",
-    ),
-    (
-        "replay - S X",
-        GOOD,
-        Status::InputFault,
-        "input fault: capture\n",
-    ),
-    (
-        "replay - S C",
+        " - S C",
         GOOD,
         Status::BadCapture,
         "bad capture: short header\n",
     ),
 ];
 
-const USAGE: &str = "usage: flymon replay PROFILE SCRIPT CAPTURE | flymon demo SEED COUNT\n";
+/// The message to words that ask for nothing.
+pub(crate) const USAGE: &str =
+    "usage: flymon replay PROFILE SCRIPT CAPTURE | flymon demo SEED COUNT | flymon flight PROFILE SCRIPT CAPTURE\n";
 
 const GOOD: &str = "add t cms 1 key=src_ip attr=packets filter=all memory=32\n";
 
 const BAD: &str = "rum\n";
 
+/// Runs the program over this script, a profile that is no TOML and a capture of 23 bytes.
+fn run_shut(alloc: Global, words: &str, script: &str) -> Result<Ending, AllocError> {
+    let mut capture = capture_of(alloc, &[])?;
+    capture.truncate(23);
+    let files = profiled_files(alloc, "=", script.as_bytes(), capture)?;
+    run_over(alloc, words, files, &mut RamFile::new(), LIMITS)
+}
+
 #[test]
 fn opens_in_order(rt: HostRuntime) -> Result<(), Fail> {
     let alloc = rt.alloc();
-    for (words, script, status, message) in ORDERS {
-        let mut capture = capture_of(alloc, &[])?;
-        capture.truncate(23);
-        let files = profiled_files(alloc, "=", script.as_bytes(), capture)?;
-        let ending = run_over(alloc, words, files, &mut RamFile::new(), LIMITS)?;
-        expect_ending(&rt, &words, &ending, status, b"", message.as_bytes());
+    for (words, script) in WRONG {
+        let ending = run_shut(alloc, words, script)?;
+        expect_ending(&rt, &words, &ending, Status::Usage, b"", USAGE.as_bytes());
+    }
+    for way in WAYS {
+        for (names, script, status, message) in ORDERS {
+            let mut words = String::from_str(alloc, way)?;
+            words.push_str(names)?;
+            let ending = run_shut(alloc, &words, script)?;
+            let case = (way, names);
+            expect_ending(&rt, &case, &ending, status, b"", message.as_bytes());
+        }
     }
     Ok(())
 }
@@ -202,16 +200,18 @@ fn judges_long_scripts(rt: HostRuntime) -> Result<(), Fail> {
     ] {
         let mut script = Vec::from_slice(alloc, b"show\n")?;
         script.extend_from_slice(&vec![in alloc; b'\n'; blank]?)?;
-        let files = session_files(alloc, &script, capture_of(alloc, &[])?)?;
-        let ending = run_over(alloc, WORDS, files, &mut RamFile::new(), limits)?;
-        expect_ending(
-            &rt,
-            &blank,
-            &ending,
-            status,
-            out.as_bytes(),
-            message.as_bytes(),
-        );
+        for words in WORDS {
+            let files = session_files(alloc, &script, capture_of(alloc, &[])?)?;
+            let ending = run_over(alloc, words, files, &mut RamFile::new(), limits)?;
+            expect_ending(
+                &rt,
+                &(words, blank),
+                &ending,
+                status,
+                out.as_bytes(),
+                message.as_bytes(),
+            );
+        }
     }
     Ok(())
 }
