@@ -175,6 +175,7 @@ impl Pipe {
         let mut outs = Outs { carry: [0; 48] };
         let mut first = 0;
         'groups: for group in 0..self.shape.group_count() {
+            // Behind the last entry no group costs anything.
             if first >= self.used {
                 return;
             }
@@ -201,8 +202,9 @@ impl Pipe {
 
     /// The packet on the arrays of a group, of which `first` is the first; answers the first array
     /// behind them.
-    // Inlined: to enter it costs as much as an array without entries.
-    #[inline(always)]
+    // Not inlined: it has two callers, and only into one copy of it the search of a table is
+    // inlined. That saves more for each array than to enter it costs for each group.
+    #[inline(never)]
     fn pass_arrays<R: RegFile>(
         &self,
         group: u32,
