@@ -1,5 +1,5 @@
 -- A change behind a commit: it fills registers on which no packet in flight has an operation to make.
-use Rattle.std.proofs.Common.{◌≡◌, ◌≢◌, ℕ, ◌+◌, ◌-◌, ◌<◌, ◌≤◌, ◌^◌, Bool, true, false, cond, List, [], ◌∷◌, ◌++◌, length, map, filter, get_or, Option, Result, Ok, Err, refl, ap, ap₂, sym, ◌∙◌, subst, arith}
+use Rattle.std.proofs.Common.{◌≡◌, ℕ, ◌+◌, ◌-◌, ◌<◌, ◌^◌, Bool, true, false, cond, List, [], ◌∷◌, length, map, filter, get_or, Option, Result, Ok, Err, refl, ap, ap₂, sym, ◌∙◌, subst, arith}
 use Rattle.std.specs.Prelude.{◌||◌}
 use Rattle.std.specs.List.{All, Contains, list_any}
 use Rattle.std.proofs.Math.Path.{fun_ext}
@@ -16,7 +16,7 @@ use Rattle.pkt_headers.specs.declared.packets.Packet.{Packet}
 use Rattle.reg_file.specs.declared.traits.Call.{Call}
 use Rattle.reg_file.specs.declared.traits.DeviceFault.{DeviceFault}
 use Rattle.reg_file.specs.Registers.{Contents}
-use Rattle.pipe_core.specs.Flow.{Stages, stages_in}
+use Rattle.pipe_core.specs.Flow.{stages_in}
 use Rattle.pipe_core.specs.Rules as pipes
 use Rattle.pipe_flight.specs.Flights as flights
 use Rattle.pipe_flight.specs.Flights.{Flying, Versions, drained, drain}
@@ -29,7 +29,7 @@ use Rattle.pipe_flight.proofs.PipeLemmas.{unnamed_avoided}
 use Rattle.pipe_flight.proofs.LawLemmas.{fill_drain}
 use Rattle.pipe_flight.proofs.OrderLemmas.{all_old}
 use Rattle.reg_file.specs.Calls.{all_made}
-use Rattle.switch_model.specs.Records.{Record, Outline, outlines}
+use Rattle.switch_model.specs.Records.{Outline}
 use Rattle.switch_model.specs.Sights.{Holding, all_held}
 use Rattle.switch_model.specs.Soundness.{Sound, ShareNone}
 use Rattle.switch_model.specs.Changes as tasks
@@ -42,10 +42,10 @@ use Rattle.rule_txn.specs.Fills.{StayOutside, Refills}
 use Rattle.rule_txn.proofs.BridgeChanges.{fresh_apart}
 use Rattle.rule_txn.proofs.SwitchRules.{entry_held}
 use Rattle.flymon_engine.specs.declared.work.Change.{Change}
-use Rattle.flymon_engine.specs.Boards.{Aloft, Board}
+use Rattle.flymon_engine.specs.Boards.{Board}
 use Rattle.flymon_engine.specs.ChangeLines.{change_of}
 use Rattle.flymon_engine.specs.Moves.{Moves, Changes}
-use Rattle.flymon_engine.specs.Serial.{serial_rules, with_records, IsSerial, EditsTo}
+use Rattle.flymon_engine.specs.Serial.{serial_rules, IsSerial, EditsTo}
 use Rattle.flymon_engine.specs.Flight.{flight_rules, committed}
 use Rattle.flymon_engine.specs.Pipelined.{alofts, versions_of, IsPipeOf, IsAirborne}
 use Rattle.flymon_engine.proofs.FlyingLemmas.{fill_alofts}

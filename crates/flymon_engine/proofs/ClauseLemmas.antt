@@ -1,10 +1,9 @@
 -- What the promises of each end say of its status.
-use Rattle.std.proofs.Common.{◌≡◌, ◌++◌, ℕ, List, Option, None, Some, Result, Ok, Err, refl, sym, ap, ◌∙◌, subst, arith, inl, inr}
-use Rattle.std.specs.Prelude.{◌⊎◌, IfSome, true}
+use Rattle.std.proofs.Common.{◌≡◌, ◌++◌, ℕ, List, Option, None, Some, Result, Ok, Err, refl, sym, ap, ◌∙◌, subst, inl, inr}
+use Rattle.std.specs.Prelude.{IfSome, true}
 use Rattle.std.specs.List.{list_any}
 use Rattle.std.specs.Str.{bytes_eq}
 use Rattle.outside.specs.Faults.{Rose}
-use Rattle.outside.specs.Told.{Told, Stays}
 use Rattle.outside.proofs.ToldLemmas.{told_weaker}
 use Rattle.fm_io.specs.Slots.{Cursor}
 use Rattle.reg_file.specs.Registers.{Contents}
@@ -27,12 +26,11 @@ use Rattle.flymon_engine.specs.Opening.{StraysStay}
 use Rattle.flymon_engine.specs.Words.{Form, Wrong, Carry, Demo}
 use Rattle.flymon_engine.specs.Works.{works_of}
 use Rattle.flymon_engine.specs.Boards.{Board, Rules}
-use Rattle.flymon_engine.specs.Moves.{NoCalls}
 use Rattle.flymon_engine.specs.Runs.{Run}
 use Rattle.flymon_engine.specs.Stops.{Ends}
 use Rattle.flymon_engine.specs.Worlds.{WhereTold}
-use Rattle.flymon_engine.specs.Going.{going, damage_met, GoesTo}
-use Rattle.flymon_engine.specs.Endings.{Seen, FilesStay, DemoMayEnd, CarriesDemo, Carried, CarriesFiles, Carries, Promises, DidNothing, IsRefused, beginning, finished, status_of, status_of_refusal, status_of_halt}
+use Rattle.flymon_engine.specs.Going.{GoesTo}
+use Rattle.flymon_engine.specs.Endings.{Seen, FilesStay, DemoMayEnd, CarriesDemo, Carried, Carries, Promises, DidNothing, IsRefused, beginning, finished, status_of, status_of_refusal, status_of_halt}
 use Rattle.flymon_engine.specs.Clauses.{DemoGoes, IsOfDemo, LeavesFiles, HasOpened, HasBadProfile, HasBadScript, HasBadHeader, FailsInPlace, IsWhole, GoesAll, IsDamaged, HasShaped, FailsDevice, FailsByName, IsEarly}
 use Rattle.flymon_engine.proofs.GoLemmas.{agrees}
 

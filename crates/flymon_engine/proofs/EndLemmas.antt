@@ -1,5 +1,5 @@
 -- How a run ends once its commands were carried out, and what is known of its files then.
-use Rattle.std.proofs.Common.{◌≡◌, ◌++◌, ℕ, List, [], Option, None, Some, Result, Ok, Err, IfSome, IfErr, ◌≤◌, refl, sym, ap, ◌∙◌, subst, arith}
+use Rattle.std.proofs.Common.{◌≡◌, ◌++◌, ℕ, List, [], Option, None, Some, Result, Ok, Err, IfSome, IfErr, ◌≤◌, refl, ap, ◌∙◌, subst, arith}
 use Rattle.outside.specs.Faults as Faults
 use Rattle.outside.specs.Sent.{CameInPart}
 use Rattle.outside.proofs.SentLemmas.{front_of_part}
@@ -17,20 +17,19 @@ use Rattle.task_lang.specs.declared.commands.Command.{Command}
 use Rattle.flymon_engine.specs.declared.stop.Halt.{Halt}
 use Rattle.flymon_engine.specs.declared.stop.Refusal.{Refusal}
 use Rattle.flymon_engine.specs.declared.stop.Refusal.TheVariants as refusals
-use Rattle.flymon_engine.specs.declared.stop.Stop.TheVariants.{Carrying}
 use Rattle.flymon_engine.specs.declared.stop.Halt.TheVariants.{Damage, Input, Device, Output}
 use Rattle.flymon_engine.specs.Causes.{HasCause}
-use Rattle.flymon_engine.specs.Arrivals.{Left, left_in, Comes}
+use Rattle.flymon_engine.specs.Arrivals.{left_in, Comes}
 use Rattle.flymon_engine.specs.Captures.{HasBegun}
 use Rattle.flymon_engine.specs.Boards.{Board, Rules, no_tasks}
 use Rattle.flymon_engine.specs.Moves.{Moves, WasTold}
 use Rattle.flymon_engine.specs.Runs.{Run}
 use Rattle.flymon_engine.specs.Works.{works_of}
 use Rattle.flymon_engine.specs.declared.words.Way.{Way}
-use Rattle.flymon_engine.specs.Words.{Form, Carry}
+use Rattle.flymon_engine.specs.Words.{Carry}
 use Rattle.flymon_engine.specs.Worlds.{Before, WhereTold, IsAt, EndsAt}
 use Rattle.flymon_engine.specs.Messages.{SendsMessage}
-use Rattle.flymon_engine.specs.Endings.{Seen, Carried, CarriesFiles, Promises, StopsReading, StopsOpening, beginning, finished, carried_as}
+use Rattle.flymon_engine.specs.Endings.{Seen, Carried, CarriesFiles, Promises, StopsReading, StopsOpening, beginning, carried_as}
 
 -- the operations of the run and those of its end are all that were made since the list was empty
 made_all : (a b c d : Option (List Call)) (xs ys : List Call) → Told (λ old now. now ≡ []) a b → Grows b xs c → Grows c ys d → Told (λ old now. now ≡ xs ++ ys) a d

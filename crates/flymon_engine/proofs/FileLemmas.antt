@@ -1,5 +1,5 @@
 -- What is known of a name's text, through later calls on files.
-use Rattle.std.proofs.Common.{◌≡◌, ◌+◌, ◌<◌, ◌≤◌, ℕ, Bool, true, false, cond, List, length, take, Option, None, Some, IfSome, Result, Ok, Err, refl, sym, ap, ◌∙◌, subst, arith, ⊎_elim}
+use Rattle.std.proofs.Common.{◌≡◌, ◌+◌, ◌<◌, ◌≤◌, ℕ, Bool, true, false, cond, List, length, take, Option, None, Some, IfSome, Ok, Err, refl, sym, ap, ◌∙◌, subst, arith, ⊎_elim}
 use Rattle.std.specs.Prelude.{◌&&◌, is_none, nat_lt, MatchBool}
 use Rattle.std.specs.List.{list_any}
 use Rattle.std.specs.Str.{bytes_eq}
@@ -29,7 +29,7 @@ use Rattle.capture_read.specs.Reading.{Reading, first_reading, records_in, recor
 use Rattle.capture_read.specs.Steps as steps
 use Rattle.capture_read.specs.Steps.{MovesOn, last_begun}
 use Rattle.flymon_engine.specs.Arrivals.{Left, left_in, left_of, left_by}
-use Rattle.flymon_engine.specs.Opening.{is_standard, IsThere, Reads, GivesProfile, GivesCommands, HasProfile, IsValid, Opens, StopsFiles, HasInputCause, StraysStay, KeepsNames, header_refusal}
+use Rattle.flymon_engine.specs.Opening.{is_standard, IsThere, Reads, GivesProfile, HasProfile, IsValid, Opens, StopsFiles, HasInputCause, StraysStay, KeepsNames, header_refusal}
 
 text_by : (a b : Bool) (t u : Option Cursor) (x y : Option (List ℕ)) → b ≡ a → Told (λ _ _. Unit {0}) t u → Stays x y
     → Stays (cond (a && is_none t) None x) (cond (b && is_none u) None y)

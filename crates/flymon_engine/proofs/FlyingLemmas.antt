@@ -1,5 +1,5 @@
 -- What packets in flight have still to do: how it changes as they move, and as rules change.
-use Rattle.std.proofs.Common.{◌≡◌, ◌≢◌, ℕ, ◌+◌, ◌-◌, ◌<◌, ◌≤◌, Bool, true, false, not, cond, List, [], ◌∷◌, ◌++◌, length, map, filter, refl, ap, ap₂, sym, ◌∙◌, subst, arith, eq-eqb}
+use Rattle.std.proofs.Common.{◌≡◌, ◌≢◌, ℕ, ◌+◌, ◌-◌, ◌<◌, ◌≤◌, Bool, true, false, not, cond, List, [], ◌∷◌, ◌++◌, length, map, filter, refl, ap, ap₂, sym, ◌∙◌, arith, eq-eqb}
 use Rattle.std.specs.Prelude.{◌==◌}
 use Rattle.std.specs.List.{All}
 use Rattle.std.proofs.lemmas.Bool.Decides.{nat_tests}
@@ -11,7 +11,7 @@ use Rattle.pkt_headers.specs.declared.packets.Packet.{Packet}
 use Rattle.reg_file.specs.declared.traits.Call.{Call}
 use Rattle.reg_file.specs.Registers.{Contents}
 use Rattle.reg_file.specs.Calls.{made, all_made}
-use Rattle.pipe_core.specs.Flow.{Stages, flow, stages_in}
+use Rattle.pipe_core.specs.Flow.{Stages, flow}
 use Rattle.pipe_core.specs.Rules as pipes
 use Rattle.pipe_flight.specs.Flights as flights
 use Rattle.pipe_flight.specs.Flights.{Flying, Versions, entering, calls_next, rest_of, drained, drain, committed}
@@ -24,7 +24,7 @@ use Rattle.pipe_flight.proofs.Agreements.{SameAt}
 use Rattle.pipe_flight.proofs.PlaceLemmas.{InGroup, FromGroup, same_after, staged_from}
 use Rattle.pipe_flight.proofs.DrainLemmas.{Reaches, BothStaged, Advances, drain_first, rest_same, rest_at, same_made, reaches_from, stages_staged, advances}
 use Rattle.pipe_flight.proofs.CommitLemmas.{rest_none, kept_rest}
-use Rattle.pipe_flight.proofs.OrderLemmas.{old_split, all_old, all_present}
+use Rattle.pipe_flight.proofs.OrderLemmas.{old_split, all_present}
 use Rattle.pipe_flight.proofs.LawLemmas.{olds_reach}
 use Rattle.rule_txn.proofs.BridgeFinds.{filter_none}
 use Rattle.flymon_engine.specs.Boards.{Aloft}

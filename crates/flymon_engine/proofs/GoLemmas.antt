@@ -1,15 +1,15 @@
 -- A run that stops is a front of the whole script's.
-use Rattle.std.proofs.Common.{◌≡◌, ℕ, zero, suc, true, false, List, [], ◌∷◌, ◌++◌, Bool, Option, None, Some, Result, Ok, Err, if◌then◌else◌, refl, sym, ap, ◌∙◌, subst, append_assoc}
+use Rattle.std.proofs.Common.{◌≡◌, ℕ, zero, suc, true, false, List, [], ◌∷◌, ◌++◌, Bool, Option, None, Some, Result, Ok, Err, refl, sym, ap, ◌∙◌, append_assoc}
 use Rattle.std.specs.Prelude.{not, ◌&&◌}
 use Rattle.std.proofs.lemmas.List.{append-nil}
 use Rattle.flymon_engine.specs.declared.work.Work.{Work}
 use Rattle.flymon_engine.specs.declared.work.Work.TheVariants.{Take, Change, Ask}
 use Rattle.flymon_engine.specs.declared.stop.Halt.{Halt}
 use Rattle.flymon_engine.specs.declared.stop.Halt.TheVariants.{Damage, Input, Device, Output}
-use Rattle.flymon_engine.specs.Arrivals.{Arrival, Left}
-use Rattle.flymon_engine.specs.Boards.{Board, Rules}
-use Rattle.flymon_engine.specs.Runs.{Run, moved, passed, pass_first, taken_by, asked_by, meets, step, sends, done_by, lines_of, carried, unmet}
-use Rattle.flymon_engine.specs.Stops.{HaltsBy, Stopped, Finished, Ends, Cuts, SpoilsTo}
+use Rattle.flymon_engine.specs.Arrivals.{Arrival}
+use Rattle.flymon_engine.specs.Boards.{Rules}
+use Rattle.flymon_engine.specs.Runs.{Run, passed, pass_first, taken_by, meets, step, sends, done_by, lines_of, carried, unmet}
+use Rattle.flymon_engine.specs.Stops.{Finished, Ends, Cuts, SpoilsTo}
 use Rattle.capture_read.specs.declared.records.CaptureFault.{CaptureFault}
 use Rattle.flymon_engine.proofs.StepLemmas.{change_unmet, ask_unmet}
 use Rattle.flymon_engine.specs.Going.{going, damage_met, IsFront, GoesTo, AgreesBy}

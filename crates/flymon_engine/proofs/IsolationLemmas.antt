@@ -1,6 +1,6 @@
 -- What a task answers rests on its sketch part, and that on its own history.
-use Rattle.std.proofs.Common.{◌≡◌, ◌≤◌, ◌<◌, ◌+◌, ℕ, zero, suc, min, Bool, true, false, List, [], ◌∷◌, ◌++◌, map, take, drop, length, filter, Option, None, Some, option_map, cond, refl, sym, ap, ◌∙◌, subst, arith, add-one}
-use Rattle.std.specs.List.{find, fold}
+use Rattle.std.proofs.Common.{◌≡◌, ◌≤◌, ◌+◌, ℕ, zero, suc, Bool, true, false, List, [], ◌∷◌, ◌++◌, map, take, drop, length, filter, Option, None, option_map, cond, refl, sym, ap, ◌∙◌, subst, arith}
+use Rattle.std.specs.List.{fold}
 use Rattle.std.specs.Str.{bytes_eq}
 use Rattle.std.proofs.lemmas.List.{length-drop}
 use Rattle.std.proofs.lemmas.List.Sums.{fold-append}
@@ -8,21 +8,18 @@ use Rattle.std.proofs.lemmas.List.{map-append}
 use Rattle.addr_translate.specs.Geometry.{Geometry}
 use Rattle.readout.specs.declared.requests.Ask as asks
 use Rattle.readout.specs.declared.requests.Request.TheVariants.{Task}
-use Rattle.readout.specs.Parts.{SketchPart}
 use Rattle.readout.specs.PlacedTasks.{View}
-use Rattle.readout.specs.Answers.{Answer, part_named, answer_if_live, answer_by, task_answer, answer_to}
+use Rattle.readout.specs.Answers.{part_named, answer_if_live, task_answer, answer_to}
 use Rattle.sw_profile.specs.declared.profiles.Profile.{Profile}
-use Rattle.switch_model.specs.Records.{Part, Record, outlines}
-use Rattle.switch_model.specs.Changes.{changed}
+use Rattle.switch_model.specs.Records.{Part, Record}
 use Rattle.switch_model.specs.Packets.{join}
-use Rattle.switch_model.specs.Histories.{Event, Passes, Changes, stepped, after, accepted, alone, alone_after, own_change, name_in, part_of, has_name}
+use Rattle.switch_model.specs.Histories.{Event, Passes, Changes, stepped, after, accepted, alone, alone_after, own_change, name_in, part_of}
 use Rattle.switch_model.proofs.IsolationLemmas.{is_alone}
 use Rattle.flymon_engine.specs.declared.work.Work.{Work}
 use Rattle.flymon_engine.specs.declared.work.Work.TheVariants.{Take, Change, Ask}
 use Rattle.flymon_engine.specs.Arrivals.{Arrival, Left}
 use Rattle.flymon_engine.specs.Boards.{Board, lines_in}
-use Rattle.flymon_engine.specs.ChangeLines.{change_of}
-use Rattle.flymon_engine.specs.Runs.{Run, pass_first, passed, taken_by, step, carried, lines_of, done_by}
+use Rattle.flymon_engine.specs.Runs.{Run, passed, taken_by, step, carried}
 use Rattle.rule_txn.specs.Seen.{part_shown, parts_shown, view_of}
 use Rattle.flymon_engine.specs.Endings.{beginning}
 use Rattle.flymon_engine.specs.Serial.{serial_rules, with_records, answer_on, request_verdict, state_of}

@@ -1,12 +1,12 @@
 -- Packets pass, enter and settle as the rules of a flight say.
-use Rattle.std.proofs.Common.{◌≡◌, ◌≢◌, Bool, true, false, cond, ℕ, ◌+◌, ◌<◌, ◌≤◌, suc, zero, List, [], ◌∷◌, ◌++◌, length, map, filter, Option, None, Some, refl, ap, ap₂, sym, ◌∙◌, subst, arith}
+use Rattle.std.proofs.Common.{◌≡◌, ◌≢◌, Bool, true, false, cond, ℕ, ◌+◌, ◌<◌, ◌≤◌, suc, List, [], ◌∷◌, ◌++◌, length, map, filter, Option, None, Some, refl, ap, ap₂, sym, ◌∙◌, subst, arith}
 use Rattle.std.specs.Prelude.{◌==◌}
 use Rattle.std.specs.List.{All}
 use Rattle.std.proofs.lemmas.List.{append-nil, append_assoc}
 use Rattle.std.proofs.lemmas.List.Elements.{All-nil, All-cons, All-append, All-weaker}
 use Rattle.outside.specs.Told.{Told, Stays, Grows}
 use Rattle.outside.proofs.ToldLemmas.{told_then, told_weaker, grows_none, grows_then, grows_stays, stays_same}
-use Rattle.addr_translate.specs.Geometry.{Geometry, group_number}
+use Rattle.addr_translate.specs.Geometry.{Geometry}
 use Rattle.pkt_headers.specs.declared.packets.Packet.{Packet}
 use Rattle.reg_file.specs.declared.traits.Call.{Call}
 use Rattle.reg_file.specs.Registers.{Contents, Dims}
@@ -20,16 +20,15 @@ use Rattle.pipe_flight.specs.Flights.{Flying, Versions, entering, calls_next, dr
 use Rattle.pipe_flight.specs.Orders as orders
 use Rattle.pipe_flight.specs.Orders.{NobodyAt, Falls, IsFlight, is_old}
 use Rattle.pipe_flight.specs.States.{versions, group_count, MovesOn, moved_with}
-use Rattle.pipe_flight.proofs.DrainLemmas.{BothStaged, drain_append, enter_drain}
+use Rattle.pipe_flight.proofs.DrainLemmas.{drain_append, enter_drain}
 use Rattle.pipe_flight.proofs.CommitLemmas.{commit_drained}
 use Rattle.pipe_flight.proofs.MoveLemmas.{both_staged, count_same}
 use Rattle.pipe_flight.proofs.OrderLemmas.{falls_wider, falls_back, falls_here, falls_above, old_split, all_present}
 use Rattle.switch_model.specs.Packets.{join, calls_of, Layout}
-use Rattle.rule_txn.specs.Switch.{SwitchState, rules_for}
+use Rattle.rule_txn.specs.Switch.{SwitchState}
 use Rattle.rule_txn.specs.Seen.{StandsFor}
 use Rattle.rule_txn.proofs.BridgeLemmas.{joins}
 use Rattle.rule_txn.proofs.SwitchRules.{calls_for}
-use Rattle.sw_profile.specs.declared.profiles.Profile.{Profile}
 use Rattle.flymon_engine.specs.declared.pipelined.Pipelined.{Pipelined}
 use Rattle.flymon_engine.specs.Boards.{Aloft, Board, Move}
 use Rattle.flymon_engine.specs.Moves.{Moves}

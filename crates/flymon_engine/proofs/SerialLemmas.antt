@@ -1,6 +1,6 @@
 -- A switch carries out changes, packets and read-outs as the rules say.
-use Rattle.std.proofs.Common.{◌≡◌, ◌≢◌, ◌<◌, ◌≤◌, ℕ, Bool, true, false, not, if◌then◌else◌, IsTrue, List, [], ◌++◌, length, Option, None, Some, Result, Ok, Err, refl, sym, ap, ap₂, ◌∙◌, subst, arith, lit<}
-use Rattle.std.specs.Prelude.{IfOk, MatchResult}
+use Rattle.std.proofs.Common.{◌≡◌, ◌≢◌, ◌<◌, ℕ, Bool, true, false, not, if◌then◌else◌, IsTrue, List, [], length, Option, None, Some, Result, Ok, Err, refl, sym, ap, ap₂, ◌∙◌, subst, arith, lit<}
+use Rattle.std.specs.Prelude.{◌↔◌, IfOk, MatchResult}
 use Rattle.std.specs.Str.{bytes_eq}
 use Rattle.std.proofs.lemmas.Slice.Eq.{bytes_eq-Decides}
 use Rattle.key_mask.specs.Masks.{no_lengths}
@@ -282,21 +282,14 @@ serial_counted switch cells sent0 sent1 made result sends told board =
 -- ---- calls of the switch
 
 -- how a change ended tells of the registers what its line does
-fills_to : {T F : Type 0} (cause : F → Option Refusal) (change : Change) (v : Result Edit Refusal) (made : Result T F) (result : Result ArrayString DeviceFault)
-    (before after : SwitchState) (old new : Contents) → Answers cause v made before after → Says cause change made result → Refills v made old new → Refills v result old new
-fills_to cause change (Ok edit) (Ok t) (Ok line) before after old new is says fills = fills
-fills_to cause change (Ok edit) (Ok t) (Err e) before after old new is says fills = absurd says
-fills_to cause change (Ok edit) (Err fault) (Ok line) before after old new is says fills = absurd (subst (λ why. Tells why change (Ok line)) is.0 says)
-fills_to cause change (Ok edit) (Err fault) (Err e) before after old new is says fills = fills
-fills_to cause change (Err why) made result before after old new is says fills = fills
-
-fills_from : {T F : Type 0} (cause : F → Option Refusal) (change : Change) (v : Result Edit Refusal) (made : Result T F) (result : Result ArrayString DeviceFault)
-    (before after : SwitchState) (old new : Contents) → Answers cause v made before after → Says cause change made result → Refills v result old new → Refills v made old new
-fills_from cause change (Ok edit) (Ok t) (Ok line) before after old new is says fills = fills
-fills_from cause change (Ok edit) (Ok t) (Err e) before after old new is says fills = absurd says
-fills_from cause change (Ok edit) (Err fault) (Ok line) before after old new is says fills = absurd (subst (λ why. Tells why change (Ok line)) is.0 says)
-fills_from cause change (Ok edit) (Err fault) (Err e) before after old new is says fills = fills
-fills_from cause change (Err why) made result before after old new is says fills = fills
+same_fills : {T F : Type 0} (cause : F → Option Refusal) (change : Change) (v : Result Edit Refusal) (made : Result T F) (result : Result ArrayString DeviceFault)
+    (before after : SwitchState) (old new : Contents) → Answers cause v made before after → Says cause change made result
+    → Refills v made old new ↔ Refills v result old new
+same_fills cause change (Ok edit) (Ok t) (Ok line) before after old new is says = (λ fills. fills, λ fills. fills)
+same_fills cause change (Ok edit) (Ok t) (Err e) before after old new is says = absurd says
+same_fills cause change (Ok edit) (Err fault) (Ok line) before after old new is says = absurd (subst (λ why. Tells why change (Ok line)) is.0 says)
+same_fills cause change (Ok edit) (Err fault) (Err e) before after old new is says = (λ fills. fills, λ fills. fills)
+same_fills cause change (Err why) made result before after old new is says = (λ fills. fills, λ fills. fills)
 
 -- a change that was carried out by this call filled the registers so
 pub serial_fills : {T F : Type 0} (cause : F → Option Refusal) (change asked : Change) → change ≡ asked → (made : Result T F) (result : Result ArrayString DeviceFault)
@@ -304,7 +297,7 @@ pub serial_fills : {T F : Type 0} (cause : F → Option Refusal) (change asked :
     → Refills (judged before.geometry before.outlines (change_of asked)) made old new → Refills (judged before.geometry before.outlines (change_of change)) result old new
 serial_fills cause change asked is made result before after old new answers says fills =
     subst (λ c. Refills (judged before.geometry before.outlines (change_of c)) result old new) (sym is)
-    (fills_to cause change (judged before.geometry before.outlines (change_of asked)) made result before after old new answers says fills)
+    ((same_fills cause change (judged before.geometry before.outlines (change_of asked)) made result before after old new answers says).0 fills)
 
 -- and is one of the rules
 pub serial_edits : {T F : Type 0} (cause : F → Option Refusal) (change asked : Change) → change ≡ asked → (made : Result T F) (result : Result ArrayString DeviceFault)
@@ -318,7 +311,7 @@ serial_edits cause change asked is made result before after calls0 calls1 limits
       hash_key = shape.1;
       over = λ board old new fills serial.
           serial_change cause board asked made result before after old new calls0 calls1 limits proper filling answers
-          (fills_from cause asked (judged before.geometry before.outlines (change_of asked)) made result before after old new answers told fills) stays told serial;
+          ((same_fills cause asked (judged before.geometry before.outlines (change_of asked)) made result before after old new answers told).1 fills) stays told serial;
     })
   where
     shape : (after.geometry ≡ before.geometry) × (after.hash_key ≡ before.hash_key)

@@ -1,16 +1,16 @@
 -- What a command comes to.
-use Rattle.std.proofs.Common.{◌≡◌, ◌≤◌, ◌<◌, ℕ, true, false, List, [], ◌∷◌, ◌++◌, length, Option, None, Some, Result, Ok, Err, Bool, OnOk, OnErr, ◌+◌, take, drop, get_or, refl, sym, ap, ◌∙◌, subst, arith}
+use Rattle.std.proofs.Common.{◌≡◌, ◌≤◌, ◌<◌, ℕ, true, false, List, [], ◌∷◌, ◌++◌, length, Option, Result, Ok, Err, Bool, OnOk, OnErr, ◌+◌, take, drop, get_or, refl, sym, ap, ◌∙◌, subst, arith}
 use Rattle.std.specs.Prelude.{nat_lt, is_some, ◌&&◌, not}
 use Rattle.std.proofs.lemmas.Bool.Decides.{nat_tests}
 use Rattle.std.proofs.lemmas.List.{length-map, get_or-map, take_more, drop_more, take_all, take-append-drop}
-use Rattle.outside.specs.Told.{Told, Stays, Grows}
+use Rattle.outside.specs.Told.{Stays, Grows}
 use Rattle.outside.specs.Sent.{CameInPart}
 use Rattle.outside.proofs.ToldLemmas.{grows_then, grows_stays}
 use Rattle.fm_io.specs.Slots.{Cursor}
 use Rattle.reg_file.specs.Registers.{Contents}
 use Rattle.reg_file.specs.declared.traits.Call.{Call}
 use Rattle.flymon_engine.specs.declared.work.Work.{Work}
-use Rattle.flymon_engine.specs.declared.work.Work.TheVariants.{Take, Change, Ask}
+use Rattle.flymon_engine.specs.declared.work.Work.TheVariants.{Change, Ask}
 use Rattle.flymon_engine.specs.declared.stop.Halt.{Halt}
 use Rattle.flymon_engine.specs.declared.stop.Halt.TheVariants.{Output, Device}
 use Rattle.task_lang.specs.declared.commands.Command.{Command}
@@ -18,9 +18,9 @@ use Rattle.flymon_engine.specs.Works.{work_of, works_of}
 use Rattle.flymon_engine.specs.Arrivals.{Left}
 use Rattle.flymon_engine.specs.Boards.{Board, Move, Rules}
 use Rattle.flymon_engine.specs.Moves.{Moves}
-use Rattle.flymon_engine.specs.Runs.{Run, moved, sends, passed, step, done_by, lines_of, meets, carried, unmet, asked_by, taken_by}
-use Rattle.flymon_engine.specs.Stops.{HaltsBy, IsServed, SpoilsTo, Stopped, Finished, Ends}
-use Rattle.flymon_engine.specs.Worlds.{Before, Shows, IsAt, Advances, Halts, GoesOn, AdvancesTo, Goes, TookAll, Reaches, EndsAt}
+use Rattle.flymon_engine.specs.Runs.{Run, moved, sends, passed, step, done_by, lines_of, meets, carried, unmet, taken_by}
+use Rattle.flymon_engine.specs.Stops.{IsServed, SpoilsTo}
+use Rattle.flymon_engine.specs.Worlds.{Before, Shows, IsAt, Halts, GoesOn, AdvancesTo, Goes, TookAll, Reaches, EndsAt}
 
 -- a command that asks for no packets meets no damage
 pub asks_none : (b : Bool) (n : ℕ) → (b && nat_lt n 0) ≡ false

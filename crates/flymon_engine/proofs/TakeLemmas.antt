@@ -1,29 +1,28 @@
 -- Packets that pass one after another.
-use Rattle.std.proofs.Common.{◌≡◌, ◌≢◌, ◌≤◌, ◌<◌, ℕ, zero, suc, ◌+◌, ◌-◌, min, true, false, List, [], ◌∷◌, ◌++◌, length, take, drop, Option, None, Some, Err, Bool, get_or, refl, sym, ap, ◌∙◌, subst, add-one, arith, take-add, cond}
+use Rattle.std.proofs.Common.{◌≡◌, ◌≤◌, ◌<◌, ℕ, ◌+◌, ◌-◌, true, false, List, [], ◌∷◌, ◌++◌, length, take, drop, Option, None, Some, Err, Bool, get_or, refl, sym, ap, ◌∙◌, subst, add-one, arith, take-add, cond}
 use Rattle.std.specs.Prelude.{nat_le, nat_lt, is_some, ◌&&◌, count_by}
 use Rattle.std.specs.List.{All}
 use Rattle.std.proofs.lemmas.Bool.Decides.{nat_tests}
-use Rattle.std.proofs.lemmas.List.{length-append, length-drop, length-take, append-nil, take-append-drop, drop_more, take_more}
+use Rattle.std.proofs.lemmas.List.{length-drop, length-take, drop_more, take_more}
 use Rattle.std.proofs.lemmas.List.Elements.{All-append, All-weaker, All-cons, All-nil, All-head, All-tail, All-take}
 use Rattle.std.proofs.lemmas.List.Sums.{sum_by-cons}
-use Rattle.outside.specs.Told.{Told, Stays, Grows}
 use Rattle.outside.proofs.ToldLemmas.{grows_then}
 use Rattle.fm_io.specs.Slots.{Cursor}
 use Rattle.reg_file.specs.Registers.{Contents}
 use Rattle.reg_file.specs.declared.traits.Call.{Call}
 use Rattle.pkt_headers.specs.declared.packets.Packet.{Packet}
 use Rattle.flymon_engine.specs.Arrivals.{Arrival, Left, Gives, GivesOne, GivesNone, nothing_left}
-use Rattle.flymon_engine.specs.Boards.{Board, Move, Rules}
+use Rattle.flymon_engine.specs.Boards.{Board, Rules}
 use Rattle.flymon_engine.specs.Moves.{Moves}
-use Rattle.flymon_engine.specs.Runs.{Run, passed, pass_first, pass_one, meets}
-use Rattle.flymon_engine.specs.Stops.{HaltsBy, ended_by}
+use Rattle.flymon_engine.specs.Runs.{Run, passed, pass_one}
+use Rattle.flymon_engine.specs.Stops.{ended_by}
 use Rattle.flymon_engine.specs.Causes.{halt_of}
 use Rattle.flymon_engine.specs.declared.work.Work.TheVariants.{Take}
 use Rattle.capture_read.specs.declared.records.CaptureFault.{CaptureFault}
 use Rattle.capture_read.specs.declared.records.CaptureFault.TheVariants.{ShortHeader, BadMagic, BadLink, ShortRecord, BigRecord, Read}
 use Rattle.capture_read.specs.Steps.{MovesOn}
 use Rattle.flymon_engine.specs.declared.stop.Halt.TheVariants.{Damage}
-use Rattle.flymon_engine.specs.Worlds.{Before, Shows, IsAt, Took, TookAll, Halts}
+use Rattle.flymon_engine.specs.Worlds.{Before, IsAt, Took, TookAll, Halts}
 
 -- nothing was taken yet
 pub took_none : (rules : Rules) (stands : Board → Contents → Type 0) (comes : Left → Cursor → Type 0) (before : Before)

@@ -1,5 +1,5 @@
 -- Worked values of runs: text, operations and damage, computed from the definitions alone.
-use Rattle.std.proofs.Common.{◌≡◌, ℕ, ◌+◌, List, [], ◌∷◌, ◌++◌, map, Option, None, Some, refl}
+use Rattle.std.proofs.Common.{◌≡◌, ℕ, ◌+◌, List, [], ◌∷◌, Option, None, Some, refl}
 use Rattle.std.specs.Prelude.{replicate, codes}
 use Rattle.std.specs.Fmt.{digits}
 use Rattle.addr_translate.specs.Geometry.{equal_geometry, groups_ended}
@@ -36,8 +36,9 @@ use Rattle.flymon_engine.specs.Works.{works_of}
 use Rattle.flymon_engine.specs.Arrivals.{Arrival, Left}
 use Rattle.flymon_engine.specs.Runs.{Run, passed, step}
 use Rattle.flymon_engine.specs.Going.{going, damage_met}
-use Rattle.flymon_engine.specs.Endings.{beginning}
+use Rattle.flymon_engine.specs.Endings.{beginning, finished}
 use Rattle.flymon_engine.specs.Serial.{serial_rules}
+use Rattle.flymon_engine.specs.Flight.{flight_rules}
 
 -- a packet from 10.0.0.x port 1024 to port 80 of 192.168.1.1, with the flags of the first packet of a connection
 abbrev packet_from : ℕ → Packet
@@ -100,11 +101,11 @@ session_text : (run_on standard_profile four session).text
 unfolding going step passed judged changed placed open_arrays places_for bits_for free_block keys_for pair_for are_disjoint passes mask_bytes_of sight_of all_held all_spots all_uses join groups_ended digits answer_to line_of_query cells_found answer_of key_hash row_hash_at index_at independent_cell independent_cells cells_of window hash_of head_line cell_line cells_lines query_line
 session_text = refl
 
--- an addition to a register of array 0
-abbrev one_more : ℕ → Call
-one_more addr = record { array = 0; addr = addr; op = CondAdd 1 4294967295 }
+-- an addition to a register
+abbrev one_more : ℕ → ℕ → Call
+one_more array addr = record { array = array; addr = addr; op = CondAdd 1 4294967295 }
 
-session_calls : (run_on standard_profile four session).calls ≡ one_more 18 ∷ one_more 18 ∷ one_more 1 ∷ one_more 18 ∷ []
+session_calls : (run_on standard_profile four session).calls ≡ one_more 0 18 ∷ one_more 0 18 ∷ one_more 0 1 ∷ one_more 0 18 ∷ []
 unfolding going step passed judged changed placed open_arrays places_for bits_for free_block keys_for pair_for are_disjoint passes mask_bytes_of sight_of all_held all_spots all_uses all_stands calls_of join groups_ended key_hash row_hash_at index_at bound_at window hash_of
 session_calls = refl
 
@@ -120,3 +121,37 @@ sums_text : (run_on small (captured (3 ∷ 3 ∷ 1 ∷ []) None) sums).text
     ≡ codes "added s\npackets 3\nread s rows 3 size 2 start 0\ncell 0 0 2\ncell 0 1 1\ncell 1 1 2\ncell 2 0 1\ncell 2 1 2\nend\nquery s 1\nquery s 2\n"
 unfolding going step passed judged changed placed open_arrays places_for bits_for free_block keys_for pair_for are_disjoint passes mask_bytes_of sight_of all_held all_spots all_uses join groups_ended digits answer_to line_of_query cells_found answer_of key_hash row_hash_at index_at raised chained_cells cells_of window hash_of head_line cell_line cells_lines query_line
 sums_text = refl
+
+-- ---- packets in flight
+
+-- what a script comes to where all packets in flight have passed at its end
+abbrev flown_on : Profile → Left → List Command → Run
+flown_on profile left script = finished flight_rules (going flight_rules (beginning profile left) (works_of script))
+
+abbrev three_rows : List Command
+three_rows = commands.Add (task (codes "a") Cms 3 32) ∷ commands.Run ∷ []
+
+abbrev three : Left
+three = captured (1 ∷ 2 ∷ 1 ∷ []) None
+
+replayed_calls : (run_on small three three_rows).calls
+    ≡ one_more 0 18 ∷ one_more 1 19 ∷ one_more 2 11 ∷ one_more 0 1 ∷ one_more 1 12 ∷ one_more 2 3 ∷ one_more 0 18 ∷ one_more 1 19 ∷ one_more 2 11 ∷ []
+unfolding going step passed judged changed placed open_arrays places_for bits_for free_block keys_for pair_for are_disjoint passes mask_bytes_of sight_of all_held all_spots all_uses all_stands calls_of join groups_ended key_hash row_hash_at index_at bound_at window hash_of
+replayed_calls = refl
+
+-- a packet passes a group as the next one enters
+flown_calls : (flown_on small three three_rows).calls
+    ≡ one_more 0 18 ∷ one_more 1 19 ∷ one_more 0 1 ∷ one_more 2 11 ∷ one_more 1 12 ∷ one_more 2 3 ∷ one_more 0 18 ∷ one_more 1 19 ∷ one_more 2 11 ∷ []
+unfolding going step passed judged changed placed open_arrays places_for bits_for free_block keys_for pair_for are_disjoint passes mask_bytes_of sight_of all_held all_spots all_uses all_stands calls_of join groups_ended key_hash row_hash_at index_at bound_at window hash_of
+flown_calls = refl
+
+-- one group of one array: a task takes the registers of one whose packet is in flight as it is removed
+abbrev single : Profile
+single = record { shape = equal_geometry 1 (record { cmus = 1; units = 1; bits = 5 }) 5; key = standard_key }
+
+abbrev taken_over : List Command
+taken_over = commands.Add (task (codes "a") Cms 1 32) ∷ commands.Run ∷ commands.Remove (codes "a") ∷ commands.Add (task (codes "b") Cms 1 32) ∷ []
+
+taken_over_calls : (flown_on single (captured (1 ∷ []) None) taken_over).calls ≡ one_more 0 18 ∷ []
+unfolding going step passed judged changed placed open_arrays places_for bits_for free_block keys_for pair_for are_disjoint passes mask_bytes_of sight_of all_held all_spots all_uses all_stands calls_of join groups_ended key_hash row_hash_at index_at bound_at window hash_of
+taken_over_calls = refl

@@ -1,6 +1,6 @@
 -- Where the capture and the registers are told, through calls.
-use Rattle.std.proofs.Common.{◌≡◌, ◌≤◌, ℕ, List, Option, None, Some, IfSome, refl, ◌∙◌, arith}
-use Rattle.outside.specs.Told.{Told, Stays, Grows}
+use Rattle.std.proofs.Common.{Option, None, Some, refl, ◌∙◌, arith}
+use Rattle.outside.specs.Told.{Told}
 use Rattle.fm_io.specs.Slots.{Cursor}
 use Rattle.reg_file.specs.Registers.{Contents}
 use Rattle.capture_read.specs.Steps.{MovesOn}

@@ -7,7 +7,7 @@ use Rattle.reg_file.specs.Registers.{Contents}
 use Rattle.capture_read.specs.declared.records.CaptureFault.{CaptureFault}
 use Rattle.sw_profile.specs.declared.profiles.Profile.{Profile}
 use Rattle.sw_profile.specs.declared.faults.ProfileFault.{ProfileFault}
-use Rattle.sw_profile.specs.Profiles.{profile_in, standard_profile}
+use Rattle.sw_profile.specs.Profiles.{standard_profile}
 use Rattle.gen_capture.specs.Scripts.{script_text}
 use Rattle.gen_capture.specs.Captures.{capture_text}
 use Rattle.task_lang.specs.declared.commands.Command.{Command}

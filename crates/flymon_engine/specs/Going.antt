@@ -1,12 +1,11 @@
 -- What a whole script comes to, where nothing fails but the capture may be damaged.
-use Rattle.std.specs.Prelude.{◌≡◌, ℕ, true, List, [], ◌∷◌, ◌++◌, if◌then◌else◌, Option, None, Some, Result, Ok, Err}
+use Rattle.std.specs.Prelude.{◌≡◌, List, [], ◌∷◌, ◌++◌, if◌then◌else◌, Option, None, Some, Result, Ok, Err}
 use Rattle.flymon_engine.specs.declared.work.Work.{Work}
 use Rattle.capture_read.specs.declared.records.CaptureFault.{CaptureFault}
 use Rattle.flymon_engine.specs.declared.stop.Halt.{Halt}
 use Rattle.flymon_engine.specs.declared.stop.Halt.TheVariants.{Damage, Input, Device, Output}
 use Rattle.flymon_engine.specs.Boards.{Rules}
 use Rattle.flymon_engine.specs.Runs.{Run, passed, taken_by, meets, step}
-use Rattle.flymon_engine.specs.Stops.{Ends}
 
 -- the run that all commands lead to, or the command that meets the damage
 unfoldable pub going : Rules → Run → List Work → Run

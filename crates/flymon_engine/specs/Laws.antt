@@ -11,7 +11,7 @@ use Rattle.flymon_engine.specs.declared.work.Work.{Work}
 use Rattle.flymon_engine.specs.declared.work.Work.TheVariants.{Take, Change, Ask}
 use Rattle.flymon_engine.specs.declared.stop.Halt.{Halt}
 use Rattle.flymon_engine.specs.Arrivals.{Arrival, Left}
-use Rattle.flymon_engine.specs.Boards.{Board, Rules}
+use Rattle.flymon_engine.specs.Boards.{Rules}
 use Rattle.flymon_engine.specs.ChangeLines.{change_of}
 use Rattle.flymon_engine.specs.Runs.{Run, taken_by, step, carried, lines_of}
 use Rattle.flymon_engine.specs.Stops.{Ends}

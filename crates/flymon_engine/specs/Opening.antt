@@ -1,5 +1,5 @@
 -- The opening of a run: which files the words name, what their texts say, and why one of them stops the run.
-use Rattle.std.specs.Prelude.{◌≡◌, ℕ, ◌≤◌, Bool, true, false, cond, List, codes, Option, None, Some, IfSome, Result, Ok, Err, MatchBool}
+use Rattle.std.specs.Prelude.{◌≡◌, ℕ, ◌≤◌, Bool, true, false, List, codes, Option, None, Some, IfSome, Ok, Err, MatchBool}
 use Rattle.std.specs.List.{list_any}
 use Rattle.std.specs.Str.{bytes_eq}
 use Rattle.outside.specs.Faults.{Rose}

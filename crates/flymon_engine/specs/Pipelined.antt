@@ -1,5 +1,5 @@
 -- A switch with packets in flight, as a machine.
-use Rattle.std.specs.Prelude.{◌≡◌, ℕ, List, [], ◌∷◌, length, map}
+use Rattle.std.specs.Prelude.{◌≡◌, List, [], ◌∷◌, length, map}
 use Rattle.pipe_core.specs.Flow.{stages_in}
 use Rattle.pipe_core.specs.Rules as pipes
 use Rattle.pipe_flight.specs.Flights.{Flying, Versions, rest_of, drain}

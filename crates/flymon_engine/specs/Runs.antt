@@ -1,5 +1,5 @@
 -- A run: what was sent, the operations that were made, the tasks, and what the capture still gives.
-use Rattle.std.specs.Prelude.{ℕ, zero, suc, min, length, nat_lt, is_some, ◌&&◌, not, Bool, true, List, [], ◌∷◌, ◌++◌, codes, Option}
+use Rattle.std.specs.Prelude.{ℕ, zero, suc, min, length, nat_lt, is_some, ◌&&◌, not, Bool, true, List, [], ◌∷◌, ◌++◌, codes}
 use Rattle.std.specs.Fmt.{decimal}
 use Rattle.reg_file.specs.declared.traits.Call.{Call}
 use Rattle.flymon_engine.specs.declared.work.Work.{Work}

@@ -1,5 +1,5 @@
 -- The rules of a switch whose packets pass one after another, each through all groups.
-use Rattle.std.specs.Prelude.{◌≡◌, ℕ, List, [], Option, None, Some, Result, Ok, Err}
+use Rattle.std.specs.Prelude.{◌≡◌, ℕ, List, [], Option, Result, Ok, Err}
 use Rattle.arrayvec.specs.ArrayString.{ArrayString}
 use Rattle.addr_translate.specs.Geometry.{IsGeometry, greatest_bits}
 use Rattle.pipe_core.specs.Rules.{IsShaped}

@@ -1,5 +1,5 @@
 -- Where a run stops, and what it has done there.
-use Rattle.std.specs.Prelude.{◌≡◌, ℕ, ◌<◌, ◌++◌, ◌∷◌, nat_le, length, take, count_by, true, false, List, Option, None, Some, Result, Ok, Err}
+use Rattle.std.specs.Prelude.{◌≡◌, ℕ, ◌<◌, ◌++◌, ◌∷◌, nat_le, length, take, count_by, true, false, List, Some, Result, Ok, Err}
 use Rattle.capture_read.specs.declared.records.CaptureFault.{CaptureFault}
 use Rattle.flymon_engine.specs.declared.work.Change as changes
 use Rattle.flymon_engine.specs.declared.work.Work.{Work}

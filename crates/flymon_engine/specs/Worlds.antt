@@ -1,7 +1,7 @@
 -- What is told of the outside shows a run.
 use Rattle.std.specs.Prelude.{◌≡◌, ℕ, ◌≤◌, length, take, drop, true, false, List, Option, IfSome, Result, Ok, Err}
 use Rattle.std.specs.List.{All}
-use Rattle.outside.specs.Told.{Told, Grows}
+use Rattle.outside.specs.Told.{Grows}
 use Rattle.fm_io.specs.Slots.{Cursor}
 use Rattle.reg_file.specs.Registers.{Contents}
 use Rattle.reg_file.specs.declared.traits.Call.{Call}

@@ -2,6 +2,7 @@ pub mod RangeLemmas
 pub mod FirstLemmas
 pub mod RuleLemmas
 pub mod GroupLemmas
+pub mod IdleLemmas
 pub mod PassLemmas
 pub mod StepLemmas
 pub mod FlowLemmas

@@ -10,7 +10,7 @@ ghost use Rattle.pipe_core.specs.Rules.{IsPipe, IsShaped, SameShape, Fits, table
 ghost use Rattle.pipe_core.specs.Groups.{group_calls, Steps};
 ghost use Rattle.pipe_core.specs.Flow.{calls_over};
 
-use crate::making::{copy_tables, empty_tables, free_groups, most_entries};
+use crate::making::{copy_tables, empty_tables, free_groups, most_entries, used_among};
 use addr_translate::Shape;
 use cmu_stage::{Outs, compress, may_stand, pass};
 use group_keys::{GroupKeys, KeyUse};
@@ -31,22 +31,24 @@ pub struct Pipe {
     hashes: ByteTables<KEY_BYTES>,
     tables: Vec<Table>,
     groups: Vec<GroupKeys>,
+    /// No array from this one on has an entry: a packet passes by them.
+    used: u32,
 }
 
 impl Model for Pipe {
     ghost use Rattle.std.specs.Prelude.{◌≡◌};
-    ghost use Rattle.pipe_core.specs.Rules.{Rules, IsPipe, rules_of};
+    ghost use Rattle.pipe_core.specs.Rules.{Rules, IsPipe, AreIdle, rules_of};
 
     ghost Value = { Rules };
 
     ghost view = { λ p. rules_of p.shape p.hash_key p.tables.items p.groups.items };
 
-    ghost invariant = { λ p. (p.hashes ≡ p.hash_key) × IsPipe (rules_of p.shape p.hash_key p.tables.items p.groups.items) };
+    ghost invariant = { λ p. ((p.hashes ≡ p.hash_key) × AreIdle p.used p.tables.items) × IsPipe (rules_of p.shape p.hash_key p.tables.items p.groups.items) };
 }
 
 impl Pipe {
     /// No entries, and all units free. Each table has room for the most partitions of an array.
-    #[tactic(auto, using(crate::proofs::RuleLemmas::first_pipe))]
+    #[tactic(auto, using(crate::proofs::RuleLemmas::first_pipe, crate::proofs::IdleLemmas::first_idle))]
     pub fn new(alloc: Global, shape: Shape, hash_key: HashKey) -> Result<Pipe, AllocError>
         ensures { IfOk result (λ pipe. pipe ≡ first_rules shape hash_key) }
     {
@@ -56,6 +58,7 @@ impl Pipe {
             hashes: ByteTables::new(alloc, &hash_key)?,
             tables: empty_tables(alloc, shape.arrays(), most_entries(&shape))?,
             groups: free_groups(alloc, &shape)?,
+            used: 0,
         })
     }
 
@@ -119,6 +122,7 @@ impl Pipe {
         ensures { self.new ≡ record self.old { tables = installed self.old.tables array entry } }
     {
         self.tables[array as usize].install(entry);
+        self.used = used_among(&self.tables);
     }
 
     /// Takes the entry with this base out of an array's table. The others stay in their order.
@@ -128,7 +132,9 @@ impl Pipe {
         ensures found { find (has_base base) (entries_on self.old array) ≡ Some result }
         ensures rules { self.new ≡ record self.old { tables = uninstalled self.old.tables array base } }
     {
-        self.tables[array as usize].uninstall(base)
+        let entry = self.tables[array as usize].uninstall(base);
+        self.used = used_among(&self.tables);
+        entry
     }
 
     /// The units of a group that give the key of the mask, with one use more on each; a free unit
@@ -169,6 +175,10 @@ impl Pipe {
         let mut outs = Outs { carry: [0; 48] };
         let mut first = 0;
         'groups: for group in 0..self.shape.group_count() {
+            // Behind the last entry no group costs anything.
+            if first >= self.used {
+                return;
+            }
             first = self.pass_arrays(group, first, packet, &mut outs, regs);
         }
     }
@@ -183,11 +193,18 @@ impl Pipe {
         ensures makes { Makes (group_calls self.now group packet.now outs.old.carry) outs.old.carry outs.new.carry
             (R.contents regs.old) (R.contents regs.new) (R.calls regs.old) (R.calls regs.new) }
     {
-        self.pass_arrays(group, self.shape.first_of(group), packet, outs, regs);
+        let first = self.shape.first_of(group);
+        // No keys are made where no entry reads them.
+        if first < self.used {
+            self.pass_arrays(group, first, packet, outs, regs);
+        }
     }
 
     /// The packet on the arrays of a group, of which `first` is the first; answers the first array
     /// behind them.
+    // Not inlined: it has two callers, and only into one copy of it the search of a table is
+    // inlined. That saves more for each array than to enter it costs for each group.
+    #[inline(never)]
     fn pass_arrays<R: RegFile>(
         &self,
         group: u32,
@@ -207,7 +224,7 @@ impl Pipe {
     {
         let keys = compress(&self.hashes, &self.groups[group as usize], &packet.vec);
         let end = first + self.shape.cmus_of(group);
-        'arrays: for array in first..end {
+        'arrays: for array in first..end.min(self.used) {
             pass(
                 &self.tables[array as usize],
                 array,
@@ -236,5 +253,6 @@ impl Pipe {
     {
         copy_tables(&mut self.tables, &other.tables);
         self.groups.copy_from_slice(&other.groups);
+        self.used = other.used;
     }
 }

@@ -1,23 +1,23 @@
 -- What the switch knows where it adds a task.
-use Rattle.std.proofs.Common.{◌≡◌, ◌≢◌, ℕ, zero, suc, ◌+◌, ◌<◌, ◌≤◌, Bool, true, false, cond, List, [], ◌∷◌, ◌++◌, length, map, position, refl, ap, ap₂, sym, ◌∙◌, subst, arith, length-append}
+use Rattle.std.proofs.Common.{◌≡◌, ℕ, ◌<◌, true, false, cond, List, [], ◌∷◌, ◌++◌, length, map, position, ap, ap₂, sym, ◌∙◌, subst, arith, length-append}
 use Rattle.std.specs.Prelude.{Option, None, Some, is_some, Result, Ok, Err}
 use Rattle.addr_translate.specs.Geometry.{Geometry}
 use Rattle.placer.specs.declared.places.Place.{Place}
 use Rattle.placer.specs.declared.places as places
-use Rattle.placer.specs.Sights.{Sight, bits_for}
+use Rattle.placer.specs.Sights.{bits_for}
 use Rattle.placer.specs.Placement.{placed, sight_in}
 use Rattle.placer.proofs.PlacementLemmas.{placed_accepted}
 use Rattle.sketch_defs.specs.Tasks.{Sketch, first_fault}
 use Rattle.switch_model.specs.Records.{Row, Outline}
 use Rattle.switch_model.specs.Sights.{sight_of}
 use Rattle.switch_model.specs.Soundness.{Sound}
-use Rattle.switch_model.specs.Changes.{Refusal, Exists, BadMemory, Misplaced, Edit, Push, Add, is_called, row_at, new_outline, pushed, added, judged, edited_outlines}
+use Rattle.switch_model.specs.Changes.{Exists, BadMemory, Push, Add, is_called, row_at, new_outline, pushed, added, judged}
 use Rattle.switch_model.proofs.SoundLemmas.{sound_changed}
 use Rattle.rule_txn.specs.declared.rows.Served.{Served}
 use Rattle.rule_txn.specs.State.{State, there, Lent}
 use Rattle.rule_txn.specs.Rows.{fresh_leases, taken, leased_rows, AreServed, first_turn, with_rows, with_uses, CanServeAll, CanSettleAll}
 use Rattle.rule_txn.specs.Stages.{place_array, served_on}
-use Rattle.rule_txn.specs.Switch.{SwitchState, Stands, IsSwitch, most_records}
+use Rattle.rule_txn.specs.Switch.{Stands, IsSwitch}
 use Rattle.rule_txn.proofs.Giving.{plan_same}
 use Rattle.rule_txn.proofs.Bounds.{few_records}
 use Rattle.rule_txn.proofs.Adds.{Adds, adds}

@@ -1,27 +1,26 @@
 -- A task that is added.
-use Rattle.std.proofs.Common.{◌≡◌, ◌≢◌, ℕ, zero, suc, ◌+◌, ◌<◌, ◌≤◌, Bool, true, false, List, [], ◌∷◌, ◌++◌, length, get_or, map, refl, ap, ap₂, sym, ◌∙◌, subst, arith, append_assoc, append-nil}
-use Rattle.std.specs.Prelude.{Option, None, Some, IfSome, IsSome, option_map, slice_index_or}
-use Rattle.std.specs.List.{All, AllPairs, flat_map}
+use Rattle.std.proofs.Common.{◌≡◌, ◌≢◌, ℕ, ◌+◌, ◌<◌, List, [], ◌∷◌, ◌++◌, length, get_or, map, refl, ap, ap₂, sym, ◌∙◌, subst, arith, append_assoc, append-nil}
+use Rattle.std.specs.Prelude.{Option, None, Some, IfSome, option_map, slice_index_or}
+use Rattle.std.specs.List.{All, AllPairs}
 use Rattle.std.proofs.lemmas.List.Elements.{All-head, All-tail, All-nil, All-cons, All-map, All-weaker}
 use Rattle.addr_translate.specs.Blocks.{Block}
-use Rattle.addr_translate.specs.Geometry.{Geometry, IsGeometry, array_count, group_in, group_number}
-use Rattle.addr_translate.proofs.GeometryLemmas.{ended_below}
+use Rattle.addr_translate.specs.Geometry.{Geometry, IsGeometry, array_count, group_number}
 use Rattle.partition_pool.specs.Pools.{PoolState}
 use Rattle.group_keys.specs.declared.uses.KeyUse.{KeyUse}
 use Rattle.group_keys.specs.declared.uses.KeyUse.TheVariants as uses
 use Rattle.group_keys.specs.Units.{UsedUnit, AreUnits, keys_for, unit_at, units_in}
 use Rattle.group_keys.proofs.UseLemmas.{keys_stand}
 use Rattle.reg_file.specs.Registers.{Dims}
-use Rattle.pipe_core.specs.Rules.{IsShaped, units_of}
+use Rattle.pipe_core.specs.Rules.{IsShaped}
 use Rattle.placer.specs.declared.places.Place.{Place}
-use Rattle.placer.specs.Sights.{Sight, units_at, region_for}
+use Rattle.placer.specs.Sights.{Sight, units_at}
 use Rattle.placer.specs.Laws.{IsPlaceOn, ArePlaces}
 use Rattle.sketch_defs.specs.Tasks.{Sketch}
 use Rattle.switch_model.specs.Records.{Row, Outline, UnitMask}
-use Rattle.switch_model.specs.Sights.{Holding, GroupUse, live_holding, held_by, all_held, all_spots, all_uses, used_from, unit_uses, group_uses, units_from, units_on, sight_of}
-use Rattle.switch_model.specs.Soundness.{IsRow, IsTask, ShareNone, Sound}
+use Rattle.switch_model.specs.Sights.{Holding, live_holding, held_by, all_held, all_spots, all_uses, used_from, group_uses, units_on, sight_of}
+use Rattle.switch_model.specs.Soundness.{IsTask, ShareNone, Sound}
 use Rattle.switch_model.specs.Changes.{mask_in, masks_for, row_at, new_outline}
-use Rattle.switch_model.proofs.ListLemmas.{pairs_weaker, pairs_map, all_here, map_append, length_map}
+use Rattle.switch_model.proofs.ListLemmas.{pairs_weaker, pairs_map, all_here}
 use Rattle.switch_model.proofs.AddLemmas.{held_pushed, held_new}
 use Rattle.switch_model.proofs.SightLemmas.{units_seen, length_units, unit_seen}
 use Rattle.rule_txn.specs.declared.rows.Served.{Served}
@@ -33,9 +32,9 @@ use Rattle.rule_txn.specs.Switch.{Stands, pools_for, tables_for, groups_for}
 use Rattle.rule_txn.specs.Fills.{holding_of, AreInFile}
 use Rattle.rule_txn.proofs.Pools.{Differ, share_differ, held_of, takes, can_take}
 use Rattle.rule_txn.proofs.Uses.{TakesKey}
-use Rattle.rule_txn.proofs.Served.{HasUnits, IsNew, Finds, group_of, units_count, group_is, group_exists}
+use Rattle.rule_txn.proofs.Served.{HasUnits, IsNew, Finds, units_count, group_is, group_exists}
 use Rattle.rule_txn.proofs.Counts.{IsHeld}
-use Rattle.rule_txn.proofs.Enters.{enters, uses_enter, task_units}
+use Rattle.rule_txn.proofs.Enters.{enters, uses_enter}
 use Rattle.rule_txn.proofs.Giving.{gives_region, lent, all_in_file, live_held}
 
 -- ---- lists of four places

@@ -1,5 +1,5 @@
 -- A row that served its key finds the same units again.
-use Rattle.std.proofs.Common.{◌≡◌, ◌≢◌, ℕ, zero, suc, ◌+◌, ◌<◌, ◌≤◌, Bool, true, false, not, cond, List, [], ◌∷◌, ◌++◌, length, get_or, set, map, position, refl, ap, ap₂, sym, ◌∙◌, subst, arith, length-set}
+use Rattle.std.proofs.Common.{◌≡◌, ℕ, zero, suc, ◌+◌, ◌<◌, Bool, true, false, not, cond, List, [], ◌∷◌, length, get_or, set, map, position, refl, ap, ap₂, sym, ◌∙◌, arith, length-set}
 use Rattle.std.specs.Prelude.{Option, None, Some, option_map, nat_lt}
 use Rattle.std.specs.Option.{option_or}
 use Rattle.std.specs.Str.{bytes_eq}
@@ -11,8 +11,8 @@ use Rattle.std.proofs.lemmas.Slice.Eq.{bytes_eq-Decides}
 use Rattle.group_keys.specs.declared.uses.KeyUse.{KeyUse}
 use Rattle.group_keys.specs.declared.uses.KeyUse.TheVariants.{Single, Pair}
 use Rattle.group_keys.specs.Units.{UsedUnit, unit_at, is_free, has_mask, xor_to, pairs_of, pair_for, keys_for, served, served_at, served_units}
-use Rattle.group_keys.proofs.UseLemmas.{Cases, of_found}
-use Rattle.sorted_lists.proofs.PlaceLemmas.{position_none, position_within}
+use Rattle.group_keys.proofs.UseLemmas.{of_found}
+use Rattle.sorted_lists.proofs.PlaceLemmas.{position_none}
 use Rattle.switch_model.proofs.ListLemmas.{mapped_position}
 use Rattle.rule_txn.proofs.Places.{map-set, get_or-map}
 

@@ -1,10 +1,10 @@
 -- What follows of that: each table has room, no unit has 10,000 uses, and there is memory for all records.
-use Rattle.std.proofs.Common.{◌≡◌, ◌≢◌, ℕ, zero, suc, ◌+◌, ◌-◌, ◌*◌, ◌<◌, ◌≤◌, ◌^◌, Bool, true, false, cond, List, [], ◌∷◌, ◌++◌, length, get_or, map, take, refl, ap, ap₂, sym, ◌∙◌, subst, arith, length-append, eq-eqb, inl, inr, ⊎_elim}
-use Rattle.std.specs.Prelude.{◌==◌, ◌&&◌, nat_lt, nat_le, Option, None, Some, IfSome, sum_by, ◌⊎◌}
-use Rattle.std.specs.List.{All, AllPairs, filter, filter_map, flat_map}
+use Rattle.std.proofs.Common.{◌≡◌, ◌≢◌, ℕ, zero, suc, ◌+◌, ◌-◌, ◌*◌, ◌<◌, ◌≤◌, ◌^◌, Bool, true, false, cond, List, [], ◌∷◌, ◌++◌, length, get_or, map, take, refl, ap, sym, ◌∙◌, subst, arith, length-append, eq-eqb, inl, inr}
+use Rattle.std.specs.Prelude.{◌==◌, ◌&&◌, nat_lt, nat_le, Option, None, Some, sum_by, ◌⊎◌}
+use Rattle.std.specs.List.{All, filter, filter_map, flat_map}
 use Rattle.std.proofs.lemmas.Bool.{ltb-true, ltb-false}
 use Rattle.std.proofs.lemmas.Bool.Decides.{nat_tests}
-use Rattle.std.proofs.lemmas.List.Elements.{All-head, All-tail, All-nil, All-cons, All-append, All-map, All-weaker, filter-append}
+use Rattle.std.proofs.lemmas.List.Elements.{All-head, All-tail, All-weaker}
 use Rattle.std.proofs.lemmas.List.Sums.{sum_by-cons}
 use Rattle.std.proofs.Math.Pow.{pow_mono}
 use Rattle.std.proofs.Math.Nat.{mul_comm, mul-le-mul_left}
@@ -13,9 +13,9 @@ use Rattle.addr_translate.specs.Geometry.{Geometry, IsGeometry, IsGroup, array_c
 use Rattle.group_keys.specs.declared.uses.KeyUse.{KeyUse}
 use Rattle.group_keys.specs.declared.uses.KeyUse.TheVariants.{Single, Pair}
 use Rattle.group_keys.specs.Units.{units_in}
-use Rattle.sketch_defs.specs.Tasks.{Sketch, first_fault}
+use Rattle.sketch_defs.specs.Tasks.{Sketch}
 use Rattle.sketch_defs.proofs.TaskLemmas.{some_rows}
-use Rattle.switch_model.specs.Records.{Row, Outline, UnitMask}
+use Rattle.switch_model.specs.Records.{Row, Outline}
 use Rattle.switch_model.specs.Sights.{Holding, Spot, GroupUse, live_holding, frozen_holding, held_by, all_held, spots_from, spots_by, all_spots, rules_on, row_uses, uses_by, all_uses, group_uses, unit_uses}
 use Rattle.switch_model.specs.Soundness.{IsRow, IsTask, Sound}
 use Rattle.switch_model.proofs.ListLemmas.{length_map}

@@ -1,22 +1,19 @@
 -- How much the tasks of a switch can take: regions of an array, entries, uses of a unit, and how many tasks there can be.
-use Rattle.std.proofs.Common.{◌≡◌, ◌≢◌, ℕ, zero, suc, ◌+◌, ◌-◌, ◌*◌, ◌<◌, ◌≤◌, ◌^◌, Bool, true, false, cond, List, [], ◌∷◌, ◌++◌, length, get_or, map, take, refl, ap, ap₂, sym, ◌∙◌, subst, arith, length-append, eq-eqb, inl, inr, ⊎_elim}
-use Rattle.std.specs.Prelude.{◌==◌, ◌&&◌, nat_lt, nat_le, Option, None, Some, IfSome, sum_by, ◌⊎◌}
-use Rattle.std.specs.List.{All, AllPairs, filter, filter_map, flat_map, list_all, cons_option}
-use Rattle.std.proofs.lemmas.Bool.{ltb-true, ltb-false}
+use Rattle.std.proofs.Common.{◌≡◌, ℕ, suc, ◌+◌, ◌-◌, ◌*◌, ◌<◌, ◌≤◌, ◌^◌, Bool, true, false, cond, List, [], ◌∷◌, ◌++◌, length, map, refl, ap, sym, ◌∙◌, subst, arith, length-append, ⊎_elim}
+use Rattle.std.specs.Prelude.{◌==◌, ◌&&◌, Option, None, Some, IfSome, ◌⊎◌}
+use Rattle.std.specs.List.{All, AllPairs, filter, filter_map, list_all, cons_option}
 use Rattle.std.proofs.lemmas.Bool.Decides.{nat_tests}
 use Rattle.std.proofs.lemmas.List.Elements.{All-head, All-tail, All-nil, All-cons, All-append, All-map, All-weaker, filter-append}
-use Rattle.std.proofs.lemmas.List.Sums.{sum_by-cons}
 use Rattle.std.proofs.lemmas.Nat.{pow-add}
 use Rattle.std.proofs.Math.Nat.{le_of_mul-le-mul_right}
 use Rattle.std.proofs.Math.Pow.{pow_mono}
 use Rattle.addr_translate.specs.Blocks.{Block}
-use Rattle.addr_translate.specs.declared.shapes.GroupShape.{GroupShape}
-use Rattle.addr_translate.specs.Geometry.{Geometry, IsGeometry, IsGroup, array_count, arrays_before, bits_of, least_bits_of, group_in, no_group, group_number, groups_ended}
-use Rattle.partition_pool.specs.Regions.{InOrder, IsPartition, is_free, are_apart, begins_before, by_base}
+use Rattle.addr_translate.specs.Geometry.{Geometry, array_count, bits_of, least_bits_of}
+use Rattle.partition_pool.specs.Regions.{InOrder, are_apart, begins_before, by_base}
 use Rattle.partition_pool.proofs.Orders.{put_in_order, few_in_order}
 use Rattle.match_table.proofs.ChangeLemmas.{length_sorted}
-use Rattle.switch_model.specs.Records.{Row, Outline, UnitMask}
-use Rattle.switch_model.specs.Sights.{Holding, Spot, GroupUse, live_holding, frozen_in, frozen_holding, held_in, held_by, all_held, taken_on, spots_from, spots_by, all_spots, rules_on, row_uses, uses_by, all_uses}
+use Rattle.switch_model.specs.Records.{Row, Outline}
+use Rattle.switch_model.specs.Sights.{Holding, live_holding, frozen_in, frozen_holding, held_by, all_held, taken_on}
 use Rattle.switch_model.specs.Soundness.{IsPartOf, IsRow, IsTask, ShareNone, Sound}
 use Rattle.switch_model.proofs.ListLemmas.{pairs_head, pairs_tail, all_flat, length_map}
 use Rattle.rule_txn.proofs.Tables.{all_sorted}

@@ -1,35 +1,31 @@
 -- A task between others: its entries and its uses, coming and going.
-use Rattle.std.proofs.Common.{◌≡◌, ◌≢◌, ◌↔◌, ℕ, zero, suc, ◌+◌, ◌-◌, ◌<◌, ◌≤◌, ◌^◌, Bool, true, false, cond, List, [], ◌∷◌, ◌++◌, length, get_or, map, take, refl, ap, ap₂, sym, ◌∙◌, subst, arith, append_assoc}
-use Rattle.std.specs.Prelude.{◌==◌, Option, None, Some, IfSome, sum_by}
+use Rattle.std.proofs.Common.{◌≡◌, ℕ, zero, suc, ◌+◌, ◌<◌, ◌≤◌, ◌^◌, List, [], ◌∷◌, ◌++◌, length, get_or, map, take, refl, ap, ap₂, sym, ◌∙◌, subst, arith}
+use Rattle.std.specs.Prelude.{Option, None, Some, IfSome, sum_by}
 use Rattle.std.specs.List.{All, AllPairs, filter_map, flat_map}
 use Rattle.std.proofs.lemmas.List.Elements.{All-head, All-tail, All-nil, All-cons, All-append, All-map, All-weaker}
 use Rattle.std.proofs.lemmas.List.Sums.{sum_by-cons}
-use Rattle.addr_translate.specs.Blocks.{Block}
 use Rattle.addr_translate.specs.declared.shapes.GroupShape.{GroupShape}
-use Rattle.addr_translate.specs.Geometry.{Geometry, IsGeometry, array_count, arrays_before, bits_of, group_in, group_number, groups_ended}
+use Rattle.addr_translate.specs.Geometry.{Geometry, IsGeometry, array_count, arrays_before, group_in, group_number}
 use Rattle.group_keys.specs.Units.{units_in}
 use Rattle.pkt_headers.specs.declared.packets.Attr.{Attr}
-use Rattle.match_table.specs.declared.operations.Micro.{Micro}
 use Rattle.match_table.specs.Tables.{EntryTable}
-use Rattle.cmu_stage.specs.Passing.{IsEntry, IsFrom}
-use Rattle.pipe_core.specs.Rules.{Fits}
+use Rattle.cmu_stage.specs.Passing.{IsFrom}
 use Rattle.sketch_defs.specs.declared.kinds.Kind.{Kind}
 use Rattle.sketch_defs.specs.declared.kinds.Kind.TheVariants.{Cms, SumaxSum, SumaxMax, Bloom, Mrac, Hll, FlagOr, FlagAnd}
-use Rattle.sketch_defs.specs.Tasks.{Sketch}
 use Rattle.sketch_defs.proofs.TaskLemmas.{few_rows}
-use Rattle.sketch_lower.specs.Lowering.{micro_of, entry_of}
-use Rattle.switch_model.specs.Records.{Row, Outline, UnitMask}
-use Rattle.switch_model.specs.Sights.{Holding, Spot, GroupUse, live_holding, frozen_holding, held_by, all_held, before_of, spot_of, spots_from, spots_by, all_spots, row_uses, uses_by, all_uses, rules_on}
+use Rattle.sketch_lower.specs.Lowering.{micro_of}
+use Rattle.switch_model.specs.Records.{Row, Outline}
+use Rattle.switch_model.specs.Sights.{Holding, Spot, GroupUse, live_holding, frozen_holding, held_by, all_held, before_of, spot_of, spots_from, spots_by, all_spots, all_uses, rules_on}
 use Rattle.switch_model.specs.Soundness.{IsRow, IsTask, RisesIn, ShareNone, MatchNone, AgreeOnUnits, Sound}
 use Rattle.switch_model.proofs.ListLemmas.{Parts, pairs_parts, pairs_append, pairs_head, pairs_tail, pairs_mapped, pairs_weaker, all_front, all_back, all_here, map_append}
-use Rattle.switch_model.proofs.EditLemmas.{held_between, spots_between, uses_between}
+use Rattle.switch_model.proofs.EditLemmas.{spots_between, uses_between}
 use Rattle.rule_txn.specs.State.{there}
 use Rattle.rule_txn.specs.Rows.{Groups, first_turn, with_rows, less_rows, with_uses, less_uses, CanSettleAll, CanLeaveAll, CanServeAll, CanFreeAll}
 use Rattle.rule_txn.specs.Switch.{placed_table, tables_for, groups_for}
 use Rattle.rule_txn.proofs.Pools.{Differ, share_differ}
 use Rattle.rule_txn.proofs.Tables.{SpotsDiffer}
 use Rattle.rule_txn.proofs.Settled.{MayStand, MaySettle, settles, leaves}
-use Rattle.rule_txn.proofs.Uses.{unit_of, TakesKey}
+use Rattle.rule_txn.proofs.Uses.{unit_of}
 use Rattle.rule_txn.proofs.Served.{HasUnits, IsNew, Finds, HaveRoom, uses_of_rows, serves, frees}
 use Rattle.rule_txn.proofs.Bounds.{cmus, spot_holding, spots_live, group_range, few_entries, have_room}
 

@@ -1,33 +1,32 @@
 -- Leases where the placement found regions.
-use Rattle.std.proofs.Common.{◌≡◌, ◌≢◌, ℕ, zero, suc, ◌+◌, ◌-◌, ◌<◌, ◌≤◌, ◌^◌, Bool, true, false, cond, List, [], ◌∷◌, ◌++◌, length, get_or, map, refl, ap, ap₂, sym, ◌∙◌, subst, arith, append_assoc, append-nil}
-use Rattle.std.specs.Prelude.{◌==◌, ◌&&◌, nat_le, Option, None, Some, IfSome, IsSome, option_map}
-use Rattle.std.specs.List.{All, AllPairs, range_with_len}
+use Rattle.std.proofs.Common.{◌≡◌, ℕ, ◌+◌, ◌<◌, ◌≤◌, ◌^◌, Bool, true, false, cond, List, [], ◌∷◌, map, refl, ap, sym, ◌∙◌, subst, arith}
+use Rattle.std.specs.Prelude.{◌&&◌, nat_le, Option, None, Some, IsSome, option_map}
+use Rattle.std.specs.List.{All, range_with_len}
 use Rattle.std.proofs.lemmas.Bool.Decides.{nat_tests}
-use Rattle.std.proofs.lemmas.List.Elements.{All-head, All-tail, All-nil, All-cons, All-map, All-weaker}
+use Rattle.std.proofs.lemmas.List.Elements.{All-head, All-tail, All-map, All-weaker}
 use Rattle.std.proofs.Math.Pow.{pow_mono}
 use Rattle.addr_translate.specs.Blocks.{Block}
-use Rattle.addr_translate.specs.Geometry.{Geometry, IsGeometry, array_count, bits_of, least_bits_of, greatest_bits}
+use Rattle.addr_translate.specs.Geometry.{Geometry, array_count, bits_of, least_bits_of, greatest_bits}
 use Rattle.addr_translate.proofs.GeometryLemmas.{bits_within}
 use Rattle.partition_pool.specs.Pools.{PoolState, least_bits}
 use Rattle.partition_pool.specs.Regions.{free_block}
 use Rattle.reg_file.specs.Registers.{Dims, InRange}
-use Rattle.match_table.specs.declared.entries.Entry.{Entry}
 use Rattle.match_table.specs.Tables.{EntryTable}
-use Rattle.pipe_core.specs.Rules.{IsShaped, no_table, table_at}
-use Rattle.placer.specs.Sights.{Sight, region_in, region_for, taken_at, rules_at}
+use Rattle.pipe_core.specs.Rules.{IsShaped, no_table}
+use Rattle.placer.specs.Sights.{region_in, region_for}
 use Rattle.placer.specs.Placement.{pool_at, placed, sight_in}
 use Rattle.placer.proofs.SightLemmas.{placed_same}
 use Rattle.sketch_defs.specs.Tasks.{Sketch}
 use Rattle.switch_model.specs.Records.{Row, Outline}
-use Rattle.switch_model.specs.Sights.{Holding, all_held, all_spots, all_uses, live_holding, taken_on, rules_on, starts_before, by_place, sight_of}
+use Rattle.switch_model.specs.Sights.{Holding, all_held, all_spots, live_holding, taken_on, starts_before, by_place, sight_of}
 use Rattle.switch_model.specs.Soundness.{IsRow}
 use Rattle.switch_model.proofs.SightLemmas.{taken_seen, rules_seen}
-use Rattle.rule_txn.specs.State.{State, there, Lent, Gives, free_in}
+use Rattle.rule_txn.specs.State.{State, Lent, Gives, free_in}
 use Rattle.rule_txn.specs.Rows.{next_lease}
-use Rattle.rule_txn.specs.Switch.{Stands, pool_for, pools_for, table_for, groups_for, placed_table}
+use Rattle.rule_txn.specs.Switch.{Stands, pool_for, pools_for, groups_for}
 use Rattle.rule_txn.specs.Stages.{ArePools}
-use Rattle.rule_txn.specs.Fills.{holding_of, IsInFile, AreInFile}
-use Rattle.rule_txn.proofs.Places.{at_range, get_or-map}
+use Rattle.rule_txn.specs.Fills.{holding_of, AreInFile}
+use Rattle.rule_txn.proofs.Places.{get_or-map}
 use Rattle.rule_txn.proofs.Pools.{pools_at, length-pools, held_of}
 use Rattle.rule_txn.proofs.Tables.{table_is}
 use Rattle.rule_txn.proofs.Counts.{IsHeld}

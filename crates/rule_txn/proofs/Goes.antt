@@ -1,20 +1,17 @@
 -- The switch after a resize, a removal or a release, by what its calls gave.
-use Rattle.std.proofs.Common.{◌≡◌, ◌≢◌, ℕ, zero, suc, ◌+◌, ◌<◌, ◌≤◌, Bool, true, false, not, cond, List, [], ◌∷◌, ◌++◌, length, map, position, insert, remove, refl, ap, ap₂, sym, ◌∙◌, subst, arith}
-use Rattle.std.specs.Prelude.{Option, None, Some, is_some, is_none, Result, Ok, Err, slice_index_or}
-use Rattle.std.specs.List.{All, slice_get}
+use Rattle.std.proofs.Common.{◌≡◌, ℕ, true, false, cond, List, ◌∷◌, ◌++◌, length, map, position, insert, remove, refl, ap, ap₂, sym, ◌∙◌, subst}
+use Rattle.std.specs.Prelude.{Option, None, Some, is_some, is_none, Ok, Err, slice_index_or}
 use Rattle.sketch_defs.specs.Tasks.{Sketch}
 use Rattle.switch_model.specs.Records.{Row, Outline}
 use Rattle.switch_model.specs.Soundness.{Sound}
-use Rattle.switch_model.specs.Changes.{Refusal, Unknown, NoFrozen, Edit, Move, Drop, Thaw, Resize, Remove, Release, is_called, at_place, at_found, at_name, thawed_row, moved_outline, thawed_outline, new_outline, judged, edit_at}
+use Rattle.switch_model.specs.Changes.{Unknown, NoFrozen, Drop, Thaw, Remove, Release, is_called, at_place, at_found, thawed_row, moved_outline, thawed_outline, new_outline, judged, edit_at}
 use Rattle.switch_model.proofs.SoundLemmas.{moved_list, dropped_list, sound_changed}
 use Rattle.rule_txn.specs.State.{State, there, Lent}
-use Rattle.rule_txn.specs.Rows.{row_array, fresh_leases, taken, given, lives, frozens, moved_all, thawed, first_turn, with_rows, less_rows, less_uses, CanGive, CanMoveAll, CanLeaveAll, CanFreeAll, CanSettleAll}
-use Rattle.rule_txn.specs.Stages.{arrays_there}
+use Rattle.rule_txn.specs.Rows.{row_array, fresh_leases, taken, given, lives, frozens, moved_all, thawed, first_turn, with_rows, less_rows, less_uses, CanGive, CanMoveAll, CanLeaveAll, CanSettleAll}
 use Rattle.rule_txn.specs.Switch.{Stands, IsSwitch}
 use Rattle.rule_txn.proofs.Adds.{there_map}
 use Rattle.rule_txn.proofs.Removed.{Removes, removes, Releases, releases}
-use Rattle.rule_txn.proofs.Resizes.{Resizes}
-use Rattle.rule_txn.proofs.Resized.{FoundAt, found_at, put_back, Looks, Sizes, Resized, is_resized, sized}
+use Rattle.rule_txn.proofs.Resized.{FoundAt, found_at, put_back, Resized, sized}
 
 edited_list : (os front back : List Outline) (at : ℕ) (o : Outline) (f : Outline → Outline) → os ≡ front ++ o ∷ back → length front ≡ at → edit_at at f os ≡ front ++ f o ∷ back
 edited_list os front back at o f whole long = ap (λ n. edit_at n f os) (sym long) ∙ moved_list os front back o f whole

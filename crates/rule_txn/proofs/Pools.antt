@@ -1,22 +1,22 @@
 -- Regions that are taken of pools and given back.
-use Rattle.std.proofs.Common.{◌≡◌, ◌≢◌, ℕ, zero, suc, ◌+◌, ◌-◌, ◌<◌, ◌≤◌, ◌^◌, Bool, true, false, cond, List, [], ◌∷◌, ◌++◌, length, get_or, set, refl, ap, sym, ◌∙◌, subst, arith, filter, map, eq-eqb, append_assoc, length-set, get_or-set_same, get_or-set_other}
-use Rattle.std.specs.Prelude.{◌==◌, ◌||◌, nat_le, Option, None, Some, IsSome, option_map, Contains}
-use Rattle.std.specs.List.{All, AllPairs, range_with_len}
+use Rattle.std.proofs.Common.{◌≡◌, ◌≢◌, ℕ, ◌<◌, ◌≤◌, true, List, [], ◌∷◌, ◌++◌, length, get_or, set, refl, ap, sym, ◌∙◌, subst, arith, map, append_assoc, length-set, get_or-set_other}
+use Rattle.std.specs.Prelude.{Option, None, Some, IsSome, option_map, Contains}
+use Rattle.std.specs.List.{All, AllPairs}
 use Rattle.std.proofs.lemmas.Bool.Decides.{nat_tests}
-use Rattle.std.proofs.lemmas.List.Elements.{All-head, All-tail, All-nil, All-cons, All-weaker}
+use Rattle.std.proofs.lemmas.List.Elements.{All-head, All-tail}
 use Rattle.std.proofs.lemmas.List.FromFn.{length-map-range_with_len}
 use Rattle.std.proofs.Math.Pow.{pow_mono}
 use Rattle.addr_translate.specs.Blocks.{Block}
 use Rattle.addr_translate.specs.Geometry.{Geometry, array_count, bits_of}
 use Rattle.partition_pool.specs.Pools.{PoolState, least_bits}
-use Rattle.partition_pool.specs.Regions.{free_block, put_by_base, without, are_apart}
+use Rattle.partition_pool.specs.Regions.{put_by_base, without, are_apart}
 use Rattle.partition_pool.proofs.Orders.{contains_put}
 use Rattle.placer.specs.Placement.{no_pool, pool_at}
-use Rattle.switch_model.specs.Sights.{Holding, taken_on}
+use Rattle.switch_model.specs.Sights.{Holding}
 use Rattle.switch_model.specs.Soundness.{ShareNone}
 use Rattle.switch_model.proofs.ListLemmas.{Around, around, pairs_head, pairs_tail}
 use Rattle.rule_txn.specs.State.{there, Lent, Gives, HasGiven, free_in, with_region, less_region}
-use Rattle.rule_txn.specs.Rows.{next_lease, with_lease, less_lease, fresh_leases, taken, given, given_back, GivesAt, CanTake, IsLent, CanGive, CanGiveBack}
+use Rattle.rule_txn.specs.Rows.{next_lease, with_lease, fresh_leases, taken, given, CanTake, CanGive}
 use Rattle.rule_txn.specs.Switch.{pool_for, pools_for}
 use Rattle.rule_txn.specs.Fills.{holding_of}
 use Rattle.rule_txn.proofs.Keys.{without_put}

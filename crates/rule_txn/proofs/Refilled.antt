@@ -1,6 +1,6 @@
 -- Registers after a change, from those that its leases fill.
-use Rattle.std.proofs.Common.{◌≡◌, ℕ, ◌+◌, ◌^◌, Bool, true, false, List, [], ◌∷◌, map, refl, ap, sym, ◌∙◌, subst}
-use Rattle.std.specs.Prelude.{◌||◌, Option, None, Some, Result, Ok, Err, OnOk}
+use Rattle.std.proofs.Common.{◌≡◌, ℕ, Bool, true, false, List, [], ◌∷◌, refl, ap, sym, ◌∙◌, subst}
+use Rattle.std.specs.Prelude.{◌||◌, Option, None, Some, Result, Ok, Err}
 use Rattle.std.specs.List.{All, list_any}
 use Rattle.std.proofs.lemmas.Bool.{false≢true}
 use Rattle.std.proofs.lemmas.List.Elements.{All-nil, All-cons, All-weaker}
@@ -9,8 +9,8 @@ use Rattle.reg_file.specs.Registers.{Contents}
 use Rattle.switch_model.specs.Sights.{Holding}
 use Rattle.switch_model.specs.Changes.{Refusal, Edit}
 use Rattle.switch_model.specs.Laws.{is_in, fresh_of, start_in, Refilled}
-use Rattle.rule_txn.specs.State.{Lent, there}
-use Rattle.rule_txn.specs.Fills.{holding_of, is_in_lease, is_leased, Fills, StayOutside, Refills}
+use Rattle.rule_txn.specs.State.{Lent}
+use Rattle.rule_txn.specs.Fills.{holding_of, is_leased, Fills, StayOutside, Refills}
 use Rattle.rule_txn.proofs.Pools.{held_of}
 
 leased_any : (leases : List (Option Lent)) (array addr : ℕ) → is_leased leases array addr ≡ list_any (is_in array addr) (held_of leases)

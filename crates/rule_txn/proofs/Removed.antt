@@ -1,20 +1,19 @@
 -- Tasks that are removed, and frozen rows that are released.
-use Rattle.std.proofs.Common.{◌≡◌, ◌≢◌, ℕ, zero, suc, ◌+◌, ◌<◌, ◌≤◌, Bool, true, false, List, [], ◌∷◌, ◌++◌, length, get_or, map, refl, ap, ap₂, sym, ◌∙◌, subst, arith, append_assoc, append-nil}
-use Rattle.std.specs.Prelude.{Option, None, Some, IfSome, option_map}
+use Rattle.std.proofs.Common.{◌≡◌, ℕ, ◌+◌, List, [], ◌∷◌, ◌++◌, map, refl, ap, ap₂, sym, ◌∙◌, subst, append_assoc}
+use Rattle.std.specs.Prelude.{Option, None, Some, option_map}
 use Rattle.std.specs.List.{All, AllPairs, flat_map, filter_map, cons_option}
-use Rattle.std.proofs.lemmas.List.Elements.{All-head, All-tail, All-weaker}
+use Rattle.std.proofs.lemmas.List.Elements.{All-weaker}
 use Rattle.addr_translate.specs.Blocks.{Block}
-use Rattle.addr_translate.specs.Geometry.{Geometry, array_count}
-use Rattle.partition_pool.specs.Pools.{PoolState}
+use Rattle.addr_translate.specs.Geometry.{Geometry}
 use Rattle.sketch_defs.specs.Tasks.{Sketch}
 use Rattle.switch_model.specs.Records.{Row, Outline}
-use Rattle.switch_model.specs.Sights.{Holding, Spot, GroupUse, live_holding, frozen_holding, held_by, all_held, spots_from, spots_by, all_spots, row_uses, uses_by, all_uses}
-use Rattle.switch_model.specs.Soundness.{IsTask, ShareNone, Sound}
+use Rattle.switch_model.specs.Sights.{Holding, live_holding, frozen_holding, held_by, all_held, spots_from, all_spots, row_uses, all_uses}
+use Rattle.switch_model.specs.Soundness.{ShareNone, Sound}
 use Rattle.switch_model.specs.Changes.{thawed_row, thawed_outline}
-use Rattle.switch_model.proofs.ListLemmas.{all_here, all_front, all_back, pairs_weaker}
+use Rattle.switch_model.proofs.ListLemmas.{all_front, all_back, pairs_weaker}
 use Rattle.switch_model.proofs.EditLemmas.{held_between, held_both, spots_both, uses_both, spots_between, uses_between, held_thawed, pairs_cut}
 use Rattle.rule_txn.specs.State.{State, there, Lent}
-use Rattle.rule_txn.specs.Rows.{live_lease, frozen_lease, lives, frozens, given, CanGive, less_rows, less_uses, CanLeaveAll, CanFreeAll}
+use Rattle.rule_txn.specs.Rows.{lives, frozens, given, CanGive, less_rows, less_uses, CanLeaveAll, CanFreeAll}
 use Rattle.rule_txn.specs.Switch.{Stands, pools_for, tables_for, groups_for}
 use Rattle.rule_txn.specs.Fills.{holding_of}
 use Rattle.rule_txn.proofs.Pools.{Differ, Exists, share_differ, held_of, gives}

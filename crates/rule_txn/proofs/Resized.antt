@@ -1,26 +1,23 @@
 -- What the switch knows where it resizes a task, removes one, or releases its frozen rows.
-use Rattle.std.proofs.Common.{◌≡◌, ◌≢◌, ℕ, zero, suc, ◌+◌, ◌<◌, ◌≤◌, Bool, true, false, cond, List, [], ◌∷◌, ◌++◌, length, map, position, insert, remove, refl, ap, ap₂, sym, ◌∙◌, subst, arith, length-append, eq-eqb}
+use Rattle.std.proofs.Common.{◌≡◌, ◌≢◌, ℕ, ◌<◌, true, false, cond, List, [], ◌∷◌, ◌++◌, length, map, position, insert, remove, refl, ap, ap₂, sym, ◌∙◌, subst}
 use Rattle.std.specs.Prelude.{Option, None, Some, is_some, Result, Ok, Err, slice_index_or}
 use Rattle.std.specs.List.{All, AllPairs, slice_get}
 use Rattle.std.proofs.lemmas.List.Elements.{All-weaker, All-map}
 use Rattle.addr_translate.specs.Geometry.{Geometry, array_count}
-use Rattle.partition_pool.specs.Pools.{PoolState}
-use Rattle.placer.specs.Sights.{Sight, bits_for}
+use Rattle.placer.specs.Sights.{bits_for}
 use Rattle.placer.specs.Placement.{first_full}
 use Rattle.sketch_defs.specs.Tasks.{Sketch}
 use Rattle.switch_model.specs.Records.{Row, Outline}
 use Rattle.switch_model.specs.Sights.{all_held, sight_of}
 use Rattle.switch_model.specs.Soundness.{IsRow, IsTask, RisesIn, Sound}
-use Rattle.switch_model.specs.Changes.{Refusal, Unknown, FrozenHeld, BadMemory, NoRoom, NoFrozen, Edit, Move, Drop, Thaw, Resize, Remove, Release, is_called, moved_rows, moved, resized, at_found, at_place, at_name, moved_outline, thawed_outline, judged, edit_at, edited_outlines}
+use Rattle.switch_model.specs.Changes.{Refusal, Unknown, FrozenHeld, BadMemory, NoRoom, Edit, Move, Resize, is_called, moved_rows, moved, resized, at_found, at_place, at_name, moved_outline, judged, edit_at}
 use Rattle.switch_model.proofs.ListLemmas.{Parted, parted, get_here, removed_here, all_here, pairs_map, pairs_weaker}
 use Rattle.switch_model.proofs.AddLemmas.{rises_differ}
-use Rattle.switch_model.proofs.SoundLemmas.{moved_list, dropped_list, sound_changed}
-use Rattle.rule_txn.specs.State.{State, there, Lent}
-use Rattle.rule_txn.specs.Rows.{row_array, fresh_leases, taken, given, lives, frozens, moved_all, thawed, first_turn, with_rows, less_rows, less_uses, CanMoveAll, CanLeaveAll, CanSettleAll}
+use Rattle.switch_model.proofs.SoundLemmas.{moved_list, sound_changed}
+use Rattle.rule_txn.specs.State.{State, there}
 use Rattle.rule_txn.specs.Stages.{arrays_there}
 use Rattle.rule_txn.specs.Switch.{Stands, IsSwitch}
 use Rattle.rule_txn.proofs.Pools.{length-pools}
-use Rattle.rule_txn.proofs.Removed.{Removes, removes, Releases, releases}
 use Rattle.rule_txn.proofs.Resizes.{Resizes, resizes, room_some, room_none}
 
 -- ---- the task of a name

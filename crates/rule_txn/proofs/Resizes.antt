@@ -1,20 +1,20 @@
 -- A task that moves to another size.
-use Rattle.std.proofs.Common.{◌≡◌, ◌≢◌, ℕ, zero, suc, ◌+◌, ◌<◌, ◌≤◌, Bool, true, false, not, cond, List, [], ◌∷◌, ◌++◌, length, get_or, map, position, refl, ap, ap₂, sym, ◌∙◌, subst, arith, append_assoc, append-nil}
-use Rattle.std.specs.Prelude.{Option, None, Some, IfSome, is_some, option_map, Result, Ok, Err}
-use Rattle.std.specs.List.{All, AllPairs, flat_map, filter_map, cons_option, position_or_len}
-use Rattle.std.proofs.lemmas.List.Elements.{All-head, All-tail, All-nil, All-cons, All-map, All-weaker}
+use Rattle.std.proofs.Common.{◌≡◌, ◌≢◌, ℕ, ◌+◌, ◌<◌, Bool, true, false, not, cond, List, [], ◌∷◌, ◌++◌, length, get_or, map, refl, ap, ap₂, sym, ◌∙◌, subst, arith, append_assoc, append-nil}
+use Rattle.std.specs.Prelude.{Option, None, Some, is_some, option_map, Ok, Err}
+use Rattle.std.specs.List.{All, AllPairs, flat_map, filter_map, position_or_len}
+use Rattle.std.proofs.lemmas.List.Elements.{All-head, All-tail, All-map, All-weaker}
 use Rattle.addr_translate.specs.Blocks.{Block}
-use Rattle.addr_translate.specs.Geometry.{Geometry, IsGeometry, array_count, bits_of, least_bits_of}
+use Rattle.addr_translate.specs.Geometry.{Geometry, array_count, bits_of, least_bits_of}
 use Rattle.partition_pool.specs.Pools.{PoolState, least_bits}
-use Rattle.sorted_lists.proofs.PlaceLemmas.{position_some, position_none}
+use Rattle.sorted_lists.proofs.PlaceLemmas.{position_some}
 use Rattle.reg_file.specs.Registers.{Dims}
 use Rattle.pipe_core.specs.Rules.{IsShaped}
 use Rattle.placer.specs.Sights.{Sight, region_in, region_for}
-use Rattle.placer.specs.Placement.{pool_at, is_full, first_full}
+use Rattle.placer.specs.Placement.{is_full, first_full}
 use Rattle.sketch_defs.specs.Tasks.{Sketch}
 use Rattle.switch_model.specs.Records.{Row, Outline}
-use Rattle.switch_model.specs.Sights.{Holding, live_holding, frozen_holding, held_by, all_held, spots_by, all_spots, row_uses, uses_by, all_uses, sight_of, taken_on}
-use Rattle.switch_model.specs.Soundness.{IsRow, IsTask, RisesIn, ShareNone, Sound, size_of}
+use Rattle.switch_model.specs.Sights.{Holding, live_holding, frozen_holding, held_by, all_held, row_uses, uses_by, all_uses, sight_of}
+use Rattle.switch_model.specs.Soundness.{IsRow, IsTask, RisesIn, Sound}
 use Rattle.switch_model.specs.Changes.{moved_row, moved_first, moved_rows, moved_outline}
 use Rattle.switch_model.proofs.ListLemmas.{all_here, pairs_weaker, pairs_map, none_passes, mapped_position}
 use Rattle.switch_model.proofs.EditLemmas.{held_between, uses_between, AreMoved, HasRegion, are_moved, moved_by, region_of}
@@ -22,10 +22,10 @@ use Rattle.switch_model.proofs.AddLemmas.{rises_differ}
 use Rattle.switch_model.proofs.StandLemmas.{none_frozen, no_size}
 use Rattle.switch_model.proofs.SightLemmas.{taken_seen}
 use Rattle.rule_txn.specs.State.{State, there, Lent, Gives}
-use Rattle.rule_txn.specs.Rows.{row_array, next_lease, fresh_leases, taken, CanTake, moved_to, moved_all, CanMove, CanMoveAll, first_turn, with_rows, less_rows, CanLeaveAll, CanSettleAll}
-use Rattle.rule_txn.specs.Switch.{Stands, pool_for, pools_for, tables_for, groups_for}
+use Rattle.rule_txn.specs.Rows.{row_array, next_lease, fresh_leases, taken, CanTake, moved_all, CanMoveAll, first_turn, with_rows, less_rows, CanLeaveAll, CanSettleAll}
+use Rattle.rule_txn.specs.Switch.{Stands, pools_for, groups_for}
 use Rattle.rule_txn.specs.Fills.{holding_of, AreInFile}
-use Rattle.rule_txn.proofs.Pools.{Differ, share_differ, held_of, takes, can_take, pools_at}
+use Rattle.rule_txn.proofs.Pools.{Differ, held_of, takes, can_take, pools_at}
 use Rattle.rule_txn.proofs.Counts.{IsHeld}
 use Rattle.rule_txn.proofs.Enters.{enters, exits}
 use Rattle.rule_txn.proofs.Giving.{gives_region, lent, all_in_file, live_held}

@@ -1,22 +1,22 @@
 -- Units of groups, where the rows of a task serve their keys or go.
-use Rattle.std.proofs.Common.{◌≡◌, ◌≢◌, ℕ, zero, suc, ◌+◌, ◌<◌, ◌≤◌, Bool, true, false, cond, List, [], ◌∷◌, ◌++◌, length, get_or, set, map, refl, ap, ap₂, sym, ◌∙◌, subst, arith, length-append, append_assoc, ⊎_elim, length-set, get_or-set_same, get_or-set_other}
+use Rattle.std.proofs.Common.{◌≡◌, ◌≢◌, ℕ, suc, ◌+◌, ◌<◌, ◌≤◌, Bool, true, false, cond, List, [], ◌∷◌, ◌++◌, length, get_or, set, map, refl, ap, sym, ◌∙◌, subst, arith, length-append, append_assoc, ⊎_elim, get_or-set_same, get_or-set_other}
 use Rattle.std.specs.Prelude.{◌==◌, Option, None, Some, fold}
 use Rattle.std.specs.List.{All, AllPairs, filter, flat_map, range_with_len, count_by}
 use Rattle.std.proofs.lemmas.Bool.{cases_eq}
-use Rattle.std.proofs.lemmas.List.Elements.{All-head, All-tail, All-nil, All-cons, All-weaker, All-map, filter-append}
+use Rattle.std.proofs.lemmas.List.Elements.{All-head, All-tail, All-weaker, All-map, filter-append}
 use Rattle.std.proofs.lemmas.List.Sums.{length-filter}
 use Rattle.std.proofs.lemmas.List.FromFn.{length-map-range_with_len}
 use Rattle.addr_translate.specs.Geometry.{Geometry, array_count, group_in, group_number}
 use Rattle.addr_translate.proofs.GeometryLemmas.{ended_below}
 use Rattle.group_keys.specs.declared.uses.KeyUse.{KeyUse}
-use Rattle.group_keys.specs.Units.{UsedUnit, HasRoom, AreInUse, times_in, uses_of, unit_at, units_in, keys_for, served_at, freed_at, served_units, freed_units}
-use Rattle.pipe_core.specs.Rules.{units_of, served_in, freed_in}
+use Rattle.group_keys.specs.Units.{HasRoom, AreInUse, times_in, uses_of, unit_at, units_in, keys_for, served_at, freed_at, served_units, freed_units}
+use Rattle.pipe_core.specs.Rules.{units_of, served_in}
 use Rattle.switch_model.specs.Records.{Row, UnitMask}
 use Rattle.switch_model.specs.Sights.{GroupUse, row_uses, used_from, unit_uses, group_uses, units_from, units_on}
 use Rattle.switch_model.specs.Soundness.{AgreeOnUnits}
 use Rattle.switch_model.proofs.ListLemmas.{Parts, pairs_parts, pairs_append, all_back}
-use Rattle.rule_txn.specs.State.{there, units_for}
-use Rattle.rule_txn.specs.Rows.{Groups, with_use, with_uses, less_use, less_uses, Serves, CanServe, CanServeAll, Frees, CanFree, CanFreeAll}
+use Rattle.rule_txn.specs.State.{there}
+use Rattle.rule_txn.specs.Rows.{Groups, with_use, with_uses, less_use, less_uses, CanServeAll, CanFreeAll}
 use Rattle.rule_txn.specs.Switch.{groups_for}
 use Rattle.rule_txn.proofs.Places.{map_set, at_range}
 use Rattle.rule_txn.proofs.Again.{keys_again}

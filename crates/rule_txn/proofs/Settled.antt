@@ -1,27 +1,26 @@
 -- Entries of a task's rows that are installed one after another, and taken out.
-use Rattle.std.proofs.Common.{◌≡◌, ◌≢◌, ◌↔◌, ℕ, zero, suc, ◌+◌, ◌<◌, ◌≤◌, ◌^◌, Bool, true, false, cond, List, [], ◌∷◌, ◌++◌, length, get_or, set, refl, ap, ap₂, sym, ◌∙◌, subst, arith, filter, map, append_assoc, length-set}
-use Rattle.std.specs.Prelude.{Option, None, Some, IsTrue, bit_and, bit_xor}
+use Rattle.std.proofs.Common.{◌≡◌, ◌↔◌, ℕ, ◌+◌, ◌<◌, ◌≤◌, ◌^◌, List, [], ◌∷◌, ◌++◌, length, refl, ap, ap₂, sym, ◌∙◌, subst, arith, map, append_assoc}
+use Rattle.std.specs.Prelude.{Option, None, Some, bit_and, bit_xor}
 use Rattle.std.specs.List.{All, AllPairs, list_any}
-use Rattle.std.proofs.lemmas.List.Elements.{All-head, All-tail, All-nil, All-cons, All-append, All-weaker}
+use Rattle.std.proofs.lemmas.List.Elements.{All-head, All-tail, All-append, All-weaker}
 use Rattle.std.proofs.lemmas.Nat.{and_comm, xor_comm}
 use Rattle.addr_translate.specs.Geometry.{Geometry, array_count}
 use Rattle.key_mask.specs.Bytes.{bytewise, and_bytes, xor_bytes}
 use Rattle.key_mask.specs.Masks.{mask_bytes_of}
 use Rattle.key_mask.proofs.BytesLemmas.{and_bytes_assoc}
 use Rattle.task_filters.specs.Filters.{Pattern, are_disjoint, difference, some_bit}
-use Rattle.match_table.specs.declared.entries.Entry.{Entry}
 use Rattle.match_table.specs.Tables.{EntryTable}
-use Rattle.pipe_core.specs.Rules.{table_at, installed, uninstalled, Fits}
+use Rattle.pipe_core.specs.Rules.{installed, uninstalled, Fits}
 use Rattle.sketch_defs.specs.Tasks.{Sketch}
 use Rattle.switch_model.specs.Records.{Row}
 use Rattle.switch_model.specs.Sights.{Spot, spot_of, spots_from, rules_on}
 use Rattle.switch_model.specs.Soundness.{MatchNone}
 use Rattle.switch_model.proofs.ListLemmas.{Around, around, all_back}
 use Rattle.rule_txn.specs.declared.rows.Turn.{Turn}
-use Rattle.rule_txn.specs.State.{there, Admits, HasEntry}
-use Rattle.rule_txn.specs.Rows.{turn_after, entry_for, with_row, with_rows, less_row, less_rows, Settles, CanSettle, CanSettleAll, Leaves, CanLeave, CanLeaveAll}
+use Rattle.rule_txn.specs.State.{there}
+use Rattle.rule_txn.specs.Rows.{with_rows, less_rows, CanSettleAll, CanLeaveAll}
 use Rattle.rule_txn.specs.Switch.{placed_table, tables_for}
-use Rattle.rule_txn.proofs.Tables.{SpotsDiffer, Joins, Installs, install_one, uninstall_one, has_room, length-tables}
+use Rattle.rule_txn.proofs.Tables.{SpotsDiffer, Joins, Installs, install_one, uninstall_one, has_room}
 
 -- ---- no vector matches both, either way round
 

@@ -1,28 +1,22 @@
 -- Entries that come and go, in the order of bases.
-use Rattle.std.proofs.Common.{◌≡◌, ◌≢◌, ◌↔◌, ℕ, zero, suc, ◌+◌, ◌<◌, ◌≤◌, ◌^◌, Bool, true, false, not, cond, List, [], ◌∷◌, ◌++◌, length, get_or, set, refl, ap, sym, ◌∙◌, subst, arith, filter, map, eq-eqb, append_assoc, length-set, length-append, ap₂}
-use Rattle.std.specs.Prelude.{◌==◌, ◌&&◌, ◌||◌, nat_le, Option, None, Some, IsTrue}
-use Rattle.std.specs.List.{All, AllPairs, range_with_len, list_all, list_any}
+use Rattle.std.proofs.Common.{◌≡◌, ◌≢◌, ℕ, suc, ◌+◌, ◌<◌, ◌≤◌, ◌^◌, Bool, true, false, cond, List, [], ◌∷◌, ◌++◌, length, get_or, set, refl, ap, sym, ◌∙◌, arith, filter, map, eq-eqb, ap₂}
+use Rattle.std.specs.Prelude.{◌==◌, ◌&&◌, ◌||◌, IsTrue}
+use Rattle.std.specs.List.{All, list_all, list_any}
 use Rattle.std.proofs.lemmas.Bool.{false≢true}
 use Rattle.std.proofs.lemmas.Bool.Decides.{nat_tests}
-use Rattle.std.proofs.lemmas.List.Elements.{All-head, All-tail, All-nil, All-cons, All-append, All-weaker, filter-append}
+use Rattle.std.proofs.lemmas.List.Elements.{All-head, All-tail, All-nil, All-cons, All-weaker}
 use Rattle.std.proofs.lemmas.List.FromFn.{length-map-range_with_len}
 use Rattle.addr_translate.specs.Geometry.{Geometry, array_count}
-use Rattle.task_filters.specs.Filters.{Pattern, are_disjoint}
 use Rattle.sorted_lists.specs.Sorting.{put_by, sort_by}
 use Rattle.match_table.specs.declared.entries.Entry.{Entry}
 use Rattle.match_table.specs.Tables.{EntryTable, has_base, admits, is_apart}
 use Rattle.match_table.proofs.ChangeLemmas.{any_sorted, length_sorted}
-use Rattle.pipe_core.specs.Rules.{no_table, table_at, with_entry, without_entry, installed, uninstalled, Fits}
-use Rattle.sketch_defs.specs.Tasks.{Sketch}
-use Rattle.switch_model.specs.Records.{Row}
-use Rattle.switch_model.specs.Sights.{Spot, spot_of, spots_from, rules_on, by_place}
+use Rattle.pipe_core.specs.Rules.{no_table, table_at, with_entry, without_entry, installed, uninstalled}
+use Rattle.switch_model.specs.Sights.{Spot, rules_on}
 use Rattle.switch_model.specs.Soundness.{MatchNone}
-use Rattle.switch_model.proofs.ListLemmas.{Around, around, pairs_head, pairs_tail}
-use Rattle.rule_txn.specs.declared.rows.Turn.{Turn}
-use Rattle.rule_txn.specs.State.{there, Admits, HasEntry}
-use Rattle.rule_txn.specs.Rows.{turn_after, entry_for, with_row, with_rows, less_row, less_rows, Settles, CanSettle, CanSettleAll, Leaves, CanLeave, CanLeaveAll}
+use Rattle.rule_txn.specs.State.{HasEntry}
 use Rattle.rule_txn.specs.Switch.{placed_table, table_for, tables_for}
-use Rattle.rule_txn.proofs.Keys.{by_key, has_key, put_key, sort_key, cut_key, sort_last, sorted_cut}
+use Rattle.rule_txn.proofs.Keys.{by_key, has_key, put_key, sort_key, sort_last, sorted_cut}
 use Rattle.rule_txn.proofs.Places.{kept_at, off_place, on_place, map_set, at_range, map-set, get_or-map}
 
 abbrev pub base_at : Entry → ℕ

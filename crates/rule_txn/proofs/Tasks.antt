@@ -1,10 +1,8 @@
 -- A task with another size is allowed, as it was.
-use Rattle.std.proofs.Common.{◌≡◌, ◌≢◌, List, ℕ, Bool, true, false, not, if◌then◌else◌, IsTrue, Option, None, Some, refl, sym, ◌∙◌}
+use Rattle.std.proofs.Common.{◌≡◌, ◌≢◌, List, ℕ, Bool, true, false, not, if◌then◌else◌, IsTrue, None, Some, refl}
 use Rattle.std.specs.Str.{bytes_eq}
 use Rattle.std.proofs.lemmas.Slice.Eq.{bytes_eq-Decides}
-use Rattle.std.proofs.lemmas.Bool.{false≢true}
 use Rattle.key_mask.specs.Masks.{no_lengths}
-use Rattle.sketch_defs.specs.declared.tasks.TaskFault.{TaskFault}
 use Rattle.sketch_defs.specs.declared.tasks.TaskFault.TheVariants as faults
 use Rattle.sketch_defs.specs.Tasks.{Sketch, allows_rows, allows, is_no_key, first_fault}
 

@@ -1,12 +1,11 @@
 -- Uses of the units of a group that come and go.
-use Rattle.std.proofs.Common.{◌≡◌, ◌≢◌, ℕ, zero, suc, ◌+◌, ◌-◌, ◌<◌, ◌≤◌, Bool, true, false, cond, List, [], ◌∷◌, ◌++◌, length, get_or, set, map, refl, ap, ap₂, sym, ◌∙◌, subst, arith, length-append, eq-eqb, append_assoc, append-nil}
+use Rattle.std.proofs.Common.{◌≡◌, ◌≢◌, ℕ, ◌+◌, ◌-◌, ◌<◌, Bool, true, false, cond, List, [], ◌∷◌, ◌++◌, length, set, map, refl, ap, sym, ◌∙◌, subst, arith, length-append, eq-eqb, append_assoc}
 use Rattle.std.specs.Prelude.{◌==◌, nat_le, Option, None, Some, fold}
-use Rattle.std.specs.List.{All, AllPairs, filter, range_with_len}
-use Rattle.std.proofs.lemmas.Bool.{false≢true}
+use Rattle.std.specs.List.{All, AllPairs, range_with_len}
 use Rattle.std.proofs.lemmas.Bool.Decides.{nat_tests}
 use Rattle.std.proofs.lemmas.List.Elements.{All-head, All-tail, All-nil, All-cons, All-append, All-weaker, filter-append}
 use Rattle.std.proofs.lemmas.List.Kept.{AllPairs-filter}
-use Rattle.group_keys.specs.Units.{UsedUnit, unit_at, served, freed, served_at, freed_at}
+use Rattle.group_keys.specs.Units.{UsedUnit, served, freed, served_at, freed_at}
 use Rattle.switch_model.specs.Records.{UnitMask}
 use Rattle.switch_model.specs.Sights.{GroupUse, used_from, unit_uses, group_uses, units_from}
 use Rattle.switch_model.specs.Soundness.{AgreeOnUnits}

@@ -1,5 +1,5 @@
 -- The answers of a change.
-use Rattle.std.specs.Prelude.{◌≡◌, ℕ, List, Option, None, Some, Result, Ok, Err}
+use Rattle.std.specs.Prelude.{◌≡◌, Option, None, Some, Result, Ok, Err}
 use Rattle.placer.specs.declared.places.Refusal.TheVariants as places
 use Rattle.switch_model.specs.Changes.{Refusal, Exists, BadMemory, Misplaced, Unknown, FrozenHeld, NoRoom, NoFrozen, Edit, edited_outlines}
 use Rattle.rule_txn.specs.declared.faults.AddFault.{AddFault}

@@ -1,7 +1,6 @@
 -- Registers that a change fills.
-use Rattle.std.specs.Prelude.{◌≡◌, ℕ, ◌+◌, ◌^◌, Bool, true, false, List, [], ◌∷◌, Option, None, Some, Result, Ok, Err, OnOk}
+use Rattle.std.specs.Prelude.{◌≡◌, ℕ, ◌^◌, Bool, true, false, List, [], ◌∷◌, Option, None, Some, Result, Ok, Err, OnOk}
 use Rattle.std.specs.List.{list_any}
-use Rattle.addr_translate.specs.Geometry.{Geometry, array_count, greatest_bits}
 use Rattle.reg_file.specs.Registers.{Contents, Dims, InRange}
 use Rattle.switch_model.specs.Sights.{Holding}
 use Rattle.switch_model.specs.Changes.{Refusal, Edit}

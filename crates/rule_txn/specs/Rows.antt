@@ -1,20 +1,19 @@
 -- Rows of a task that take, settle, move and go, one after another. There are at most four; a place may be empty.
-use Rattle.std.specs.Prelude.{◌≡◌, ℕ, ◌+◌, ◌<◌, ◌≤◌, ◌^◌, ◌↔◌, List, [], ◌∷◌, length, map, slice_set, slice_index_or, Option, None, Some, IfSome, IsSome, option_map}
+use Rattle.std.specs.Prelude.{◌≡◌, ℕ, ◌+◌, ◌<◌, ◌^◌, ◌↔◌, List, [], ◌∷◌, length, map, slice_index_or, Option, None, Some, IsSome, option_map}
 use Rattle.std.specs.List.{All}
 use Rattle.addr_translate.specs.Blocks.{Block}
-use Rattle.addr_translate.specs.Geometry.{Geometry, array_count, bits_of, group_in, group_number}
+use Rattle.addr_translate.specs.Geometry.{Geometry, array_count, group_number}
 use Rattle.partition_pool.specs.Pools.{PoolState}
-use Rattle.group_keys.specs.Units.{UsedUnit, HasRoom, AreInUse, keys_for, units_in, served_units, freed_units}
+use Rattle.group_keys.specs.Units.{UsedUnit, HasRoom, AreInUse, keys_for}
 use Rattle.group_keys.specs.declared.uses.KeyUse.{KeyUse}
 use Rattle.group_keys.specs.declared.uses.KeyUse.TheVariants as uses
 use Rattle.match_table.specs.declared.entries.Entry.{Entry}
 use Rattle.match_table.specs.Tables.{EntryTable}
-use Rattle.sketch_defs.specs.declared.kinds.Kind.TheVariants.{SumaxSum}
 use Rattle.sketch_defs.specs.Tasks.{Sketch}
 use Rattle.pipe_core.specs.Rules.{Fits, installed, uninstalled, served_in, freed_in}
 use Rattle.placer.specs.Placement.{pool_at}
 use Rattle.switch_model.specs.Records.{UnitMask, Row}
-use Rattle.switch_model.specs.Sights.{before_of, spot_of}
+use Rattle.switch_model.specs.Sights.{spot_of}
 use Rattle.switch_model.specs.Changes.{moved_row, thawed_row}
 use Rattle.rule_txn.specs.declared.rows.Served.{Served}
 use Rattle.rule_txn.specs.declared.rows.Served.TheVariants.{Single, Pair}

@@ -1,13 +1,12 @@
 -- What stands in the arrays of a switch: pools, tables and units, and the steps that a row makes of them.
-use Rattle.std.specs.Prelude.{◌≡◌, ℕ, ◌+◌, ◌-◌, ◌<◌, ◌≤◌, ◌^◌, true, false, List, [], ◌∷◌, ◌++◌, length, slice_set, slice_index_or, Option, None, Some, IsSome, IfSome, IsTrue, option_map, Contains}
-use Rattle.std.specs.List.{All, list_any}
+use Rattle.std.specs.Prelude.{◌≡◌, ℕ, ◌<◌, ◌≤◌, false, List, [], ◌∷◌, length, slice_set, Option, None, Some, IsSome, IsTrue, Contains}
+use Rattle.std.specs.List.{list_any}
 use Rattle.addr_translate.specs.Blocks.{Block}
-use Rattle.addr_translate.specs.Geometry.{Geometry, array_count, bits_of, group_in, group_number}
-use Rattle.sorted_lists.specs.Sorting.{cut_by}
+use Rattle.addr_translate.specs.Geometry.{Geometry, group_number}
 use Rattle.partition_pool.specs.Pools.{PoolState, least_bits}
 use Rattle.partition_pool.specs.Pools as pools_in
 use Rattle.partition_pool.specs.Regions.{free_block, put_by_base, without}
-use Rattle.group_keys.specs.Units.{UsedUnit, HasRoom, AreInUse, keys_for, units_in, served_units, freed_units}
+use Rattle.group_keys.specs.Units.{UsedUnit}
 use Rattle.match_table.specs.declared.entries.Entry.{Entry}
 use Rattle.match_table.specs.Tables.{EntryTable, has_base, admits}
 use Rattle.pipe_core.specs.Rules.{table_at, units_of}

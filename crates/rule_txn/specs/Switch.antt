@@ -1,7 +1,7 @@
 -- What a switch keeps of its tasks.
-use Rattle.std.specs.Prelude.{◌≡◌, ℕ, ◌*◌, ◌^◌, ◌≤◌, List, [], length, map, replicate}
+use Rattle.std.specs.Prelude.{◌≡◌, ℕ, ◌*◌, ◌^◌, ◌≤◌, List, [], length, map}
 use Rattle.std.specs.List.{range_with_len}
-use Rattle.addr_translate.specs.Geometry.{Geometry, IsGeometry, array_count, bits_of, group_in}
+use Rattle.addr_translate.specs.Geometry.{Geometry, IsGeometry, array_count, bits_of}
 use Rattle.partition_pool.specs.Pools.{PoolState}
 use Rattle.match_table.specs.Tables.{EntryTable}
 use Rattle.pipe_core.specs.Rules.{Rules, rules_of, first_rules}

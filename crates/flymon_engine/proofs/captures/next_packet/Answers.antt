@@ -1,6 +1,6 @@
 use Rattle.std.proofs.Common.{Ok, sym, ap, ◌∙◌}
 use Rattle.capture_read.specs.Records.{record_view}
-use Rattle.flymon_engine.proofs.ArrivalLemmas.{told_some, told_none, told_fault, moves_on, ready_on}
+use Rattle.flymon_engine.proofs.ArrivalLemmas.{told_some, told_none, told_fault}
 use Rattle.flymon_engine.proofs.captures.next_packet.Goals as goal
 
 pub returns-in-Ok-Some-clause-next : goal.returns-in-Ok-Some-clause-next

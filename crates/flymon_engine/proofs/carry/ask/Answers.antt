@@ -1,14 +1,13 @@
-use Rattle.std.proofs.Common.{◌≡◌, ℕ, Option, Some, None, Result, Ok, Err, rules, refl, sym, ap, ◌∙◌, subst, arith, List}
-use Rattle.reg_file.specs.Registers.{Contents}
-use Rattle.outside.proofs.ToldLemmas.{told_weaker, stays_same}
+use Rattle.std.proofs.Common.{◌≡◌, Option, Some, None, Result, Ok, Err, refl, sym, ap, ◌∙◌, subst}
+use Rattle.outside.proofs.ToldLemmas.{told_weaker}
 use Rattle.flymon_engine.specs.declared.work.Work.TheVariants.{Ask}
 use Rattle.flymon_engine.specs.declared.machine.AskFault.{AskFault}
 use Rattle.flymon_engine.specs.declared.machine.AskFault.TheVariants.{Device, Write}
 use Rattle.flymon_engine.specs.declared.stop.Halt.{Halt}
 use Rattle.flymon_engine.specs.declared.stop.Halt.TheVariants as halts
-use Rattle.flymon_engine.specs.Moves.{Moves, Answers}
-use Rattle.flymon_engine.specs.Runs.{Run, moved}
-use Rattle.flymon_engine.specs.Boards.{Verdict, lines_in, IsAccepted}
+use Rattle.flymon_engine.specs.Moves.{Answers}
+use Rattle.flymon_engine.specs.Runs.{moved}
+use Rattle.flymon_engine.specs.Boards.{lines_in, IsAccepted}
 use Rattle.arrayvec.specs.ArrayString.{ArrayString}
 use Rattle.flymon_engine.proofs.WorldLemmas.{told_both}
 use Rattle.flymon_engine.proofs.StepLemmas.{ask_unmet, shows_moved, shows_same, goes_by_line, refused_by_device}

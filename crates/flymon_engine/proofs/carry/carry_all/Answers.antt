@@ -1,7 +1,5 @@
-use Rattle.std.proofs.Common.{◌≡◌, ◌+◌, ◌<◌, ℕ, List, [], ◌∷◌, ◌++◌, take, drop, get_or, Option, Result, Ok, Err, rules, refl, sym, ap, ◌∙◌, subst, arith}
-use Rattle.std.proofs.lemmas.List.{take_more, drop_more, take_all, take-append-drop}
-use Rattle.flymon_engine.specs.declared.work.Work.TheVariants.{Take}
-use Rattle.flymon_engine.specs.Runs.{Run, carried}
+use Rattle.std.proofs.Common.{◌≡◌, ◌+◌, ◌∷◌, ◌++◌, take, drop, rules, refl, arith}
+use Rattle.flymon_engine.specs.Runs.{carried}
 use Rattle.flymon_engine.specs.Arrivals.{Comes}
 use Rattle.flymon_engine.specs.Works.{work_of, works_of}
 use Rattle.flymon_engine.proofs.WorldLemmas.{where_weaker, then_where, on_same, on_then, was_same, was_then}

@@ -1,4 +1,4 @@
-use Rattle.std.proofs.Common.{◌≡◌, ◌≤◌, ℕ, List, Option, true, take}
+use Rattle.std.proofs.Common.{◌≡◌, ◌≤◌, true, take}
 use Rattle.fm_io.specs.Slots.{slot_at, OthersStay}
 use Rattle.fm_io.specs.Names.{DirectoryStays}
 use Rattle.outside.specs.Told.{Told}

@@ -1,7 +1,6 @@
-use Rattle.std.proofs.Common.{◌≡◌, ℕ, Option, Result, Ok, Err, refl, sym, ap, ◌∙◌, subst}
+use Rattle.std.proofs.Common.{subst}
 use Rattle.flymon_engine.specs.declared.work.Work.{Work}
 use Rattle.flymon_engine.specs.declared.work.Work.TheVariants.{Change, Ask}
-use Rattle.flymon_engine.specs.Runs.{Run}
 use Rattle.flymon_engine.specs.Arrivals.{Comes}
 use Rattle.flymon_engine.specs.Worlds.{Goes}
 use Rattle.flymon_engine.proofs.WorldLemmas.{where_cells, where_weaker}

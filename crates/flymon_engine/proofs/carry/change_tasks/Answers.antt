@@ -1,10 +1,8 @@
-use Rattle.std.proofs.Common.{◌≡◌, ℕ, Option, Some, None, Result, Ok, Err, rules, refl, sym, ap, ◌∙◌, subst, arith, lit<}
-use Rattle.reg_file.specs.Registers.{Contents}
+use Rattle.std.proofs.Common.{refl}
 use Rattle.outside.proofs.ToldLemmas.{told_weaker, stays_same}
 use Rattle.outside.proofs.SentLemmas.{none_in_part}
 use Rattle.flymon_engine.specs.declared.work.Work.TheVariants.{Change}
-use Rattle.flymon_engine.specs.Moves.{Moves, Changes}
-use Rattle.flymon_engine.specs.Runs.{Run, moved}
+use Rattle.flymon_engine.specs.Runs.{moved}
 use Rattle.flymon_engine.specs.Boards.{lines_in}
 use Rattle.flymon_engine.proofs.StepLemmas.{change_unmet, shows_moved, goes_by_line, refused_by_device}
 use Rattle.flymon_engine.proofs.carry.change_tasks.Goals as goal

@@ -1,6 +1,6 @@
-use Rattle.std.proofs.Common.{◌≡◌, ℕ, Option, Result, Ok, Err, refl, sym, ap, ◌∙◌}
+use Rattle.std.proofs.Common.{refl, sym, ap, ◌∙◌}
 use Rattle.flymon_engine.specs.declared.work.Work.TheVariants.{Take}
-use Rattle.flymon_engine.specs.Runs.{Run, packets_line, taken_by}
+use Rattle.flymon_engine.specs.Runs.{packets_line}
 use Rattle.flymon_engine.specs.Arrivals.{Comes}
 use Rattle.flymon_engine.proofs.WorldLemmas.{where_weaker}
 use Rattle.flymon_engine.proofs.StepLemmas.{goes_took}

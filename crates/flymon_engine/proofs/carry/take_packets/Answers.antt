@@ -1,7 +1,4 @@
-use Rattle.std.proofs.Common.{◌≡◌, ◌≤◌, ℕ, Option, None, Some, Ok, Err, Result, rules, refl, sym, ap, ◌∙◌, subst, arith}
-use Rattle.outside.specs.Told.{Told}
-use Rattle.fm_io.specs.Slots.{Cursor}
-use Rattle.reg_file.specs.Registers.{Contents}
+use Rattle.std.proofs.Common.{◌≡◌, Option, None, Some, Ok, Result, rules, refl, sym, ap, ◌∙◌, subst, arith}
 use Rattle.pkt_headers.specs.declared.packets.Packet.{Packet}
 use Rattle.capture_read.specs.declared.records.CaptureFault.{CaptureFault}
 use Rattle.flymon_engine.specs.declared.work.Work.TheVariants.{Take}
@@ -9,9 +6,8 @@ use Rattle.flymon_engine.specs.declared.stop.Halt.{Halt}
 use Rattle.flymon_engine.specs.Worlds.{Halts}
 use Rattle.flymon_engine.specs.Arrivals.{Gives, Comes}
 use Rattle.capture_read.specs.Steps.{MovesOn}
-use Rattle.flymon_engine.specs.Moves.{Moves}
-use Rattle.flymon_engine.specs.Runs.{Run, passed}
-use Rattle.flymon_engine.proofs.WorldLemmas.{told_both, was_same, was_then, on_same, on_then, where_weaker, where_tape, where_cells, where_then}
+use Rattle.flymon_engine.specs.Runs.{passed}
+use Rattle.flymon_engine.proofs.WorldLemmas.{told_both, was_same, was_then, on_same, on_then, where_weaker, where_tape, where_then}
 use Rattle.flymon_engine.proofs.TakeLemmas.{took_none, took_one, took_to_end, took_asked, stopped_by}
 use Rattle.fm_io.proofs.SlotLemmas.{others_same, others_then, directory_same, directory_then}
 use Rattle.flymon_engine.proofs.carry.take_packets.Goals as goal

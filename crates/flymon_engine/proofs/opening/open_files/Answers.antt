@@ -1,9 +1,7 @@
-use Rattle.std.proofs.Common.{rules}
 use Rattle.std.proofs.lemmas.Result.{err_from_is_err_and}
-use Rattle.flymon_engine.proofs.FileLemmas.{profile_later, has_later, reads_later, valid_later}
+use Rattle.flymon_engine.proofs.FileLemmas.{profile_later, reads_later}
 use Rattle.task_lang.specs.Script.{script_in}
 use Rattle.std.proofs.Common.{◌≡◌, Ok}
-use Rattle.fm_io.proofs.SlotLemmas.{directory_then, slot_then}
 use Rattle.flymon_engine.proofs.opening.open_files.Goals as goal
 
 pub returns-in_err-capture-clause-refused : goal.returns-in_err-capture-clause-refused

@@ -1,4 +1,4 @@
-use Rattle.std.proofs.Common.{◌≡◌, ◌-◌, length, refl, sym, ap, ◌∙◌, subst, arith}
+use Rattle.std.proofs.Common.{◌-◌, length, refl, sym, ap, ◌∙◌, subst, arith}
 use Rattle.outside.proofs.ToldLemmas.{told_then}
 use Rattle.addr_translate.specs.Geometry.{Geometry}
 use Rattle.pipe_core.specs.Rules.{Rules, SameShape}

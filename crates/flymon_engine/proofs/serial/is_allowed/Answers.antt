@@ -1,6 +1,5 @@
-use Rattle.std.proofs.Common.{◌≡◌, IsTrue, ◌∙◌, subst}
+use Rattle.std.proofs.Common.{IsTrue, ◌∙◌, subst}
 use Rattle.sketch_defs.specs.Tasks.{allows_rows, allows}
-use Rattle.key_mask.specs.Masks.{no_lengths}
 use Rattle.flymon_engine.proofs.SerialLemmas.{no_fault}
 use Rattle.flymon_engine.proofs.serial.is_allowed.Goals as goal
 

@@ -1,6 +1,4 @@
-use Rattle.std.proofs.Common.{◌≡◌, ℕ, List, Option, Result, Ok, Err, rules, refl, sym, ap, ◌∙◌, subst, arith, true}
-use Rattle.fm_io.specs.Slots.{slot_at, SlotMoves}
-use Rattle.capture_read.specs.Steps.{MovesOn}
+use Rattle.std.proofs.Common.{◌≡◌, List, Result, Err, sym, ◌∙◌, subst}
 use Rattle.task_lang.specs.declared.commands.Command.{Command}
 use Rattle.flymon_engine.specs.declared.stop.Halt.{Halt}
 use Rattle.flymon_engine.specs.declared.stop.Stop.{Stop}

@@ -1,9 +1,7 @@
-use Rattle.std.proofs.Common.{◌≡◌, ℕ, Result, refl, sym, ◌∙◌, subst}
+use Rattle.std.proofs.Common.{sym, ◌∙◌, subst}
 use Rattle.flymon_engine.specs.declared.status.Status.{Status}
-use Rattle.flymon_engine.specs.declared.status.Status.TheVariants as statuses
-use Rattle.flymon_engine.specs.declared.stop.Stop.{Stop}
 use Rattle.flymon_engine.specs.Words.{Form, form_of, texts_of}
-use Rattle.flymon_engine.specs.Endings.{Promises, status_of, seen}
+use Rattle.flymon_engine.specs.Endings.{Promises, seen}
 use Rattle.flymon_engine.specs.Clauses.{IsEarly, LeavesFiles}
 use Rattle.flymon_engine.proofs.ClauseLemmas.{to_wrong, from_wrong, to_bad_profile, to_bad_script, to_damage, to_done, to_input, to_output, to_device, to_nothing, to_names, to_stray, to_demo}
 use Rattle.flymon_engine.specs.Serial.{serial_rules, serial_lays}

@@ -1,4 +1,4 @@
-use Rattle.std.proofs.Common.{rules, ◌≡◌, ◌≢◌, IsTrue, None, Some, sym, subst}
+use Rattle.std.proofs.Common.{◌≡◌, IsTrue, None, Some, sym, subst}
 use Rattle.sketch_defs.specs.Tasks.{Sketch, allows_rows, allows, first_fault}
 use Rattle.rule_txn.proofs.Tasks.{no_fault}
 use Rattle.rule_txn.proofs.rows.with_size.Goals as goal

@@ -1,4 +1,4 @@
-use Rattle.std.proofs.Common.{◌≡◌, ◌∙◌}
+use Rattle.std.proofs.Common.{◌∙◌}
 use Rattle.outside.proofs.ToldLemmas.{told_then}
 use Rattle.flymon_engine.proofs.PipelinedLemmas.{lands, asks}
 use Rattle.flymon_engine.proofs.pipelined.PipelinedMachine.ask.Goals as goal

@@ -1,4 +1,3 @@
-use Rattle.std.proofs.Common.{◌≡◌}
 use Rattle.outside.proofs.ToldLemmas.{told_then}
 use Rattle.flymon_engine.proofs.ChangeLemmas.{changes}
 use Rattle.flymon_engine.proofs.pipelined.PipelinedMachine.change.Goals as goal

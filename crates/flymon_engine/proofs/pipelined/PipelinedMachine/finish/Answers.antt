@@ -1,4 +1,3 @@
-use Rattle.std.proofs.Common.{◌≡◌}
 use Rattle.outside.proofs.ToldLemmas.{told_weaker}
 use Rattle.flymon_engine.proofs.PipelinedLemmas.{finishes}
 use Rattle.flymon_engine.proofs.pipelined.PipelinedMachine.finish.Goals as goal

@@ -1,4 +1,4 @@
-use Rattle.std.proofs.Common.{◌≡◌, sym, ◌∙◌}
+use Rattle.std.proofs.Common.{sym, ◌∙◌}
 use Rattle.outside.proofs.ToldLemmas.{told_weaker}
 use Rattle.flymon_engine.proofs.PipelinedLemmas.{passes}
 use Rattle.flymon_engine.proofs.pipelined.PipelinedMachine.pass.Goals as goal

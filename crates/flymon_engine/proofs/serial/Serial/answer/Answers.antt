@@ -1,4 +1,4 @@
-use Rattle.std.proofs.Common.{◌≡◌, Ok, Err, Some, None, ap, ◌∙◌}
+use Rattle.std.proofs.Common.{Ok, Err, Some, None, ap, ◌∙◌}
 use Rattle.readout.specs.declared.refusals.Stop.TheVariants as stops
 use Rattle.readout.specs.declared.requests.Request.TheVariants.{Show, Stat}
 use Rattle.flymon_engine.specs.declared.machine.AskFault.TheVariants.{Device, Write}

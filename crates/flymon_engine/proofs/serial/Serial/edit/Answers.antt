@@ -1,4 +1,4 @@
-use Rattle.std.proofs.Common.{◌≡◌, Ok, Err, refl, subst}
+use Rattle.std.proofs.Common.{Ok, Err, refl, subst}
 use Rattle.outside.proofs.ToldLemmas.{told_weaker, stays_same}
 use Rattle.switch_model.specs.Changes.{judged}
 use Rattle.switch_model.specs.Changes as model

@@ -1,4 +1,3 @@
-use Rattle.std.proofs.Common.{◌≡◌}
 use Rattle.outside.proofs.ToldLemmas.{told_weaker}
 use Rattle.flymon_engine.proofs.serial.SerialMachine.change.Goals as goal
 

@@ -1,4 +1,4 @@
-use Rattle.std.proofs.Common.{◌≡◌, []}
+use Rattle.std.proofs.Common.{[]}
 use Rattle.outside.proofs.ToldLemmas.{told_weaker}
 use Rattle.flymon_engine.proofs.SerialLemmas.{serial_passed}
 use Rattle.flymon_engine.proofs.serial.SerialMachine.pass.Goals as goal

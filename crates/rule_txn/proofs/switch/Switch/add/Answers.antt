@@ -1,8 +1,6 @@
 -- A task that is added, or is refused and leaves all as it was.
-use Rattle.std.proofs.Common.{◌≡◌, ℕ, ◌+◌, ◌<◌, ◌≤◌, Bool, true, false, List, [], ◌∷◌, ◌++◌, length, map, position, refl, ap, ap₂, sym, ◌∙◌, subst, arith}
-use Rattle.std.specs.Prelude.{Option, None, Some, IfSome, is_some, Result, Ok, Err, vec_capacity}
-use Rattle.addr_translate.specs.Geometry.{Geometry}
-use Rattle.reg_file.specs.Registers.{Dims}
+use Rattle.std.proofs.Common.{◌≡◌, ℕ, ◌<◌, true, false, List, [], ◌∷◌, ◌++◌, length, map, position, refl, ap, sym, ◌∙◌, subst, arith}
+use Rattle.std.specs.Prelude.{Option, None, Some, IfSome, is_some, Ok, Err, vec_capacity}
 use Rattle.pipe_core.specs.Rules.{Rules, IsShaped}
 use Rattle.placer.specs.declared.places.Place.{Place}
 use Rattle.placer.specs.declared.places as refusals
@@ -10,8 +8,8 @@ use Rattle.placer.specs.declared.places.Refusal.TheVariants as places
 use Rattle.placer.specs.Sights.{bits_for}
 use Rattle.placer.specs.Placement.{placed, sight_in}
 use Rattle.sketch_defs.specs.Tasks.{Sketch, first_fault}
-use Rattle.switch_model.specs.Records.{Row, Outline}
-use Rattle.switch_model.specs.Changes.{Edit, Push, Add, Refusal, Exists, BadMemory, Misplaced, is_called, judged, new_outline}
+use Rattle.switch_model.specs.Records.{Outline}
+use Rattle.switch_model.specs.Changes.{Push, Add, BadMemory, Misplaced, is_called, judged, new_outline}
 use Rattle.rule_txn.specs.declared.faults.AddFault.{AddFault}
 use Rattle.rule_txn.specs.declared.faults.AddFault.TheVariants as faults
 use Rattle.rule_txn.specs.State.{State, there}

@@ -1,30 +1,13 @@
 -- A task that is removed, or was not there.
-use Rattle.std.proofs.Common.{◌≡◌, ℕ, ◌+◌, ◌<◌, ◌≤◌, Bool, true, false, not, List, [], ◌∷◌, ◌++◌, length, map, position, insert, remove, refl, ap, ap₂, sym, ◌∙◌, subst, arith}
-use Rattle.std.specs.Prelude.{Option, None, Some, IfSome, is_some, is_none, Result, Ok, Err, vec_capacity, slice_index_or}
-use Rattle.std.specs.List.{All, AllPairs}
-use Rattle.reg_file.specs.Registers.{Dims}
-use Rattle.pipe_core.specs.Rules.{Rules, IsShaped}
-use Rattle.placer.specs.Sights.{bits_for}
-use Rattle.placer.specs.Placement.{first_full}
-use Rattle.sketch_defs.specs.Tasks.{Sketch}
-use Rattle.sketch_lower.specs.Operations.{start_of}
+use Rattle.std.proofs.Common.{◌≡◌, ℕ, List, [], position, remove, refl, ap, sym, ◌∙◌, subst}
+use Rattle.std.specs.Prelude.{Option, None, Some, Ok, Err, vec_capacity}
 use Rattle.switch_model.specs.Records.{Row, Outline}
-use Rattle.switch_model.specs.Changes.{Edit, Move, Drop, Thaw, Resize, Remove, Release, Refusal, Unknown, FrozenHeld, BadMemory, NoRoom, NoFrozen, is_called, judged, new_outline, moved_outline, thawed_outline, edit_at}
-use Rattle.rule_txn.specs.declared.faults.ResizeFault.{ResizeFault}
-use Rattle.rule_txn.specs.declared.faults.ResizeFault.TheVariants as resizing
-use Rattle.rule_txn.specs.declared.faults.ReleaseFault.{ReleaseFault}
-use Rattle.rule_txn.specs.declared.faults.ReleaseFault.TheVariants as releasing
+use Rattle.switch_model.specs.Changes.{Remove, is_called, judged}
 use Rattle.rule_txn.specs.declared.faults.Unknown as unknown
-use Rattle.rule_txn.specs.State.{State, there}
-use Rattle.rule_txn.specs.Rows.{row_array, fresh_leases, CanTake, CanGive, CanLeaveAll, CanFreeAll}
-use Rattle.rule_txn.specs.Stages.{arrays_there}
+use Rattle.rule_txn.specs.State.{State}
 use Rattle.rule_txn.specs.Switch.{SwitchState, IsSwitch}
-use Rattle.rule_txn.specs.Changes.{Answers, resize_cause, remove_cause, release_cause}
-use Rattle.rule_txn.specs.Fills.{AreInFile}
-use Rattle.rule_txn.proofs.Pools.{held_of}
-use Rattle.rule_txn.proofs.Refilled.{told_made, told_refused}
-use Rattle.rule_txn.proofs.Resized.{unknown_resize, frozen_resize, bad_resize, full_resize, arrays_exist, Looks, Sizes, Resized, is_resized, sized}
-use Rattle.rule_txn.proofs.Goes.{same_task, unknown_removal, Going, judged_removal, Removed, is_removed, removed_leases, removed_switch, unknown_release, nothing_frozen, judged_release, Released, is_released, released_switch, kept_switch, Moving, moving, resized_switch}
+use Rattle.rule_txn.specs.Changes.{Answers, remove_cause}
+use Rattle.rule_txn.proofs.Goes.{unknown_removal, Going, judged_removal, Removed, is_removed, removed_leases, removed_switch}
 use Rattle.rule_txn.proofs.switch.Switch.remove.Goals as goal
 
 pub returns-in_default : goal.returns-in_default
