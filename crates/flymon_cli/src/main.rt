@@ -1,4 +1,4 @@
-//! The program: `flymon replay PROFILE SCRIPT CAPTURE`.
+//! The program `flymon`: `run` over the real files, registers and streams.
 #![tactic(auto)]
 
 use flymon_engine::run;
