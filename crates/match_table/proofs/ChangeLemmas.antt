@@ -7,10 +7,10 @@ use Rattle.std.proofs.lemmas.List.Elements.{All-nil, All-cons, All-weaker, All-a
 use Rattle.std.proofs.lemmas.List.{append-nil}
 use Rattle.std.proofs.lemmas.List.Quantifiers.{all_pairs_push, all_pairs_remove}
 use Rattle.match_table.specs.declared.entries.Entry.{Entry}
-use Rattle.sorted_lists.specs.Sorting.{sort_by, put_by, cut_by}
+use Rattle.lists.specs.Sorting.{sort_by, put_by, cut_by}
 use Rattle.match_table.specs.Tables.{has_base, is_apart, admits, comes_first, by_rank, StandApart}
-use Rattle.sorted_lists.proofs.SortLemmas.{Differ, sort_middle, cut_put, All-sorted}
-use Rattle.sorted_lists.proofs.PlaceLemmas.{cut_at, any_within}
+use Rattle.lists.proofs.SortLemmas.{Differ, sort_middle, cut_put, All-sorted}
+use Rattle.lists.proofs.PlaceLemmas.{cut_at, any_within}
 use Rattle.match_table.proofs.OrderLemmas.{differ, first_transitive, pairs_first, pairs_rest}
 
 -- ---- install

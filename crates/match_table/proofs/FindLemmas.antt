@@ -14,11 +14,11 @@ use Rattle.std.proofs.Math.ListN.{drop_of_length-le}
 use Rattle.key_mask.specs.Bytes.{and_bytes}
 use Rattle.match_table.specs.declared.entries.Entry.{Entry}
 use Rattle.task_filters.specs.Filters.{passes}
-use Rattle.sorted_lists.specs.Sorting.{Rising}
+use Rattle.lists.specs.Sorting.{Rising}
 use Rattle.match_table.specs.Runs.{ends_from, lasts, start_of}
 use Rattle.match_table.specs.Tables.{takes, has_mask, has_value, value_order, comes_first, same_mask, mask_of, IsGroup}
 use Rattle.std.proofs.lemmas.List.Sorted.{searchable_from_sorted}
-use Rattle.sorted_lists.proofs.PlaceLemmas.{find_there, find_nowhere, find_agree, find_none, find_some}
+use Rattle.lists.proofs.PlaceLemmas.{find_there, find_nowhere, find_agree, find_none, find_some}
 use Rattle.match_table.proofs.RunLemmas.{group_at, NextGroup, run, rising_at, rising_take, rising_drop, run_one_key, next_group, first_end}
 use Rattle.match_table.proofs.OrderLemmas.{by_mask, bytes_same, cmp_equal, cmp_same, is_less, mask_rises, same_bytes}
 

@@ -16,9 +16,9 @@ use Rattle.key_mask.specs.Bytes.{and_bytes, xor_bytes}
 use Rattle.key_mask.specs.Masks.{mask_bytes_of}
 use Rattle.match_table.specs.declared.entries.Entry.{Entry}
 use Rattle.task_filters.specs.Filters.{Pattern, passes, are_disjoint, difference, some_bit}
-use Rattle.sorted_lists.specs.Sorting.{Rising}
+use Rattle.lists.specs.Sorting.{Rising}
 use Rattle.match_table.specs.Tables.{takes, has_mask, order, comes_first, by_rank, mask_of, StandApart}
-use Rattle.sorted_lists.proofs.SortLemmas.{Differ, Transitive, Differing, OnlyOne, sorted_rises, find_sorted}
+use Rattle.lists.proofs.SortLemmas.{Differ, Transitive, Differing, OnlyOne, sorted_rises, find_sorted}
 use Rattle.match_table.proofs.RunLemmas.{IsByKey, KeyRises}
 
 -- ---- bytes

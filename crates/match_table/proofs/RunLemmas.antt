@@ -5,7 +5,7 @@ use Rattle.std.proofs.lemmas.Bool.{false≢true}
 use Rattle.std.proofs.lemmas.List.Elements.{All-nil, All-cons, All-head, All-tail, All-weaker, All-map, All-get_or, All-take, filter-append}
 use Rattle.std.proofs.lemmas.List.{take-append-drop, append-nil, drop-drop, length-map}
 use Rattle.std.proofs.Math.ListN.{drop_of_length-le}
-use Rattle.sorted_lists.specs.Sorting.{Rising}
+use Rattle.lists.specs.Sorting.{Rising}
 use Rattle.match_table.specs.Runs.{goes_on, ends_from, lasts, start_of}
 
 -- a test by a key

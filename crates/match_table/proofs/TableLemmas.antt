@@ -8,11 +8,11 @@ use Rattle.std.proofs.lemmas.List.Elements.{All-head, All-tail}
 use Rattle.std.proofs.lemmas.List.{length-map}
 use Rattle.std.proofs.lemmas.List.Edits.{length-remove}
 use Rattle.match_table.specs.declared.entries.Entry.{Entry}
-use Rattle.sorted_lists.specs.Sorting.{Rising, put_by, cut_by}
+use Rattle.lists.specs.Sorting.{Rising, put_by, cut_by}
 use Rattle.match_table.specs.Runs.{ends_from, lasts, goes_on}
 use Rattle.match_table.specs.Tables.{takes, has_base, has_mask, admits, comes_first, by_rank, same_mask, mask_of, masks_of, lesser_mask, StandApart, IsTable}
-use Rattle.sorted_lists.proofs.SortLemmas.{OnlyOne}
-use Rattle.sorted_lists.proofs.PlaceLemmas.{cut_at, any_within}
+use Rattle.lists.proofs.SortLemmas.{OnlyOne}
+use Rattle.lists.proofs.PlaceLemmas.{cut_at, any_within}
 use Rattle.match_table.proofs.RunLemmas.{length_lasts, run, past_run, All-lasts}
 use Rattle.match_table.proofs.OrderLemmas.{apart_one, by_mask, mask_rises, masks_upto, rank_rises}
 use Rattle.match_table.proofs.ChangeLemmas.{apart_cut, apart_push, length_sorted, rank_cut, rank_push}

@@ -7,7 +7,7 @@ use Rattle.std.specs.declared.cmp.Ordering.{Ordering}
 use Rattle.std.specs.Str.{bytes_eq}
 use Rattle.key_mask.specs.Masks.{mask_bytes_of}
 use Rattle.task_filters.specs.Filters.{Pattern, passes, are_disjoint}
-use Rattle.sorted_lists.specs.Sorting.{Rising, sort_by}
+use Rattle.lists.specs.Sorting.{Rising, sort_by}
 use Rattle.match_table.specs.declared.entries.Entry.{Entry}
 use Rattle.match_table.specs.Runs.{ends_from, lasts}
 

@@ -2,7 +2,7 @@
 ghost use Rattle.std.specs.Prelude.{◌≡◌, ◌≤◌, ◌<◌, ◌-◌, [], length, take, drop, map, slice_index_or};
 ghost use Rattle.std.specs.List.{filter, find};
 ghost use Rattle.std.specs.Option.{option_copied};
-ghost use Rattle.sorted_lists.specs.Sorting.{Rising};
+ghost use Rattle.lists.specs.Sorting.{Rising};
 ghost use Rattle.match_table.specs.Runs.{ends_from, lasts, start_of};
 ghost use Rattle.match_table.specs.Tables.{takes, has_mask, has_value, value_order, mask_of, comes_first, same_mask, IsGroup};
 

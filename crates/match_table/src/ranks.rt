@@ -1,7 +1,7 @@
 //! The entries of a table in order of mask and value.
 ghost use Rattle.std.specs.Prelude.{◌≡◌, ◌≤◌, ◌<◌, ◌+◌, ◌++◌, ◌∷◌, [], IsTrue, Some, length, drop, slice_index_or, vec_len, vec_capacity};
 ghost use Rattle.std.specs.List.{find, list_any, position, position_or_len};
-ghost use Rattle.sorted_lists.specs.Sorting.{put_by, cut_by};
+ghost use Rattle.lists.specs.Sorting.{put_by, cut_by};
 ghost use Rattle.match_table.specs.Runs.{goes_on, ends_from};
 ghost use Rattle.match_table.specs.Tables.{has_base, comes_first, same_mask};
 
@@ -36,7 +36,7 @@ pub(crate) fn put_last<T: Drop>(items: &mut Vec<T>, item: T)
 }
 
 /// Inserts an entry, for which there is room, in order of mask and value.
-#[tactic(auto, using(sorted_lists::proofs::PlaceLemmas::put_at, sorted_lists::proofs::PlaceLemmas::position_within))]
+#[tactic(auto, using(lists::proofs::PlaceLemmas::put_at, lists::proofs::PlaceLemmas::position_within))]
 pub(crate) fn put_in_rank(ranked: &mut Vec<Entry>, entry: &Entry)
     requires { vec_len ranked.old < vec_capacity ranked.old }
     ensures items { ranked.new.items ≡ put_by comes_first entry.now ranked.old.items }
@@ -50,7 +50,7 @@ pub(crate) fn put_in_rank(ranked: &mut Vec<Entry>, entry: &Entry)
 }
 
 /// The place of the first entry that stands behind this one.
-#[tactic(auto, using(sorted_lists::proofs::PlaceLemmas::position_none, sorted_lists::proofs::PlaceLemmas::position_some))]
+#[tactic(auto, using(lists::proofs::PlaceLemmas::position_none, lists::proofs::PlaceLemmas::position_some))]
 fn place_in(ranked: &[Entry], entry: &Entry) -> usize
     ensures { result ≡ position_or_len (comes_first entry.now) ranked.now }
 {
@@ -67,7 +67,7 @@ fn first_behind(ranked: &[Entry], entry: &Entry) -> Option<usize>
 }
 
 /// Takes out the entry with this base.
-#[tactic(auto, using(sorted_lists::proofs::PlaceLemmas::cut_at, sorted_lists::proofs::PlaceLemmas::found_at))]
+#[tactic(auto, using(lists::proofs::PlaceLemmas::cut_at, lists::proofs::PlaceLemmas::found_at))]
 pub(crate) fn take_out(entries: &mut Vec<Entry>, base: u32) -> Entry
     requires { IsTrue (list_any (has_base base) entries.old.items) }
     ensures found { find (has_base base) entries.old.items ≡ Some result }
@@ -80,7 +80,7 @@ pub(crate) fn take_out(entries: &mut Vec<Entry>, base: u32) -> Entry
 }
 
 /// The place of the entry with this base.
-#[tactic(auto, using(sorted_lists::proofs::PlaceLemmas::position_none, sorted_lists::proofs::PlaceLemmas::position_some, sorted_lists::proofs::PlaceLemmas::any_within))]
+#[tactic(auto, using(lists::proofs::PlaceLemmas::position_none, lists::proofs::PlaceLemmas::position_some, lists::proofs::PlaceLemmas::any_within))]
 fn place_of(entries: &[Entry], base: u32) -> usize
     requires { IsTrue (list_any (has_base base) entries.now) }
     ensures place { result ≡ position_or_len (has_base base) entries.now }

@@ -2,7 +2,7 @@
 ghost use Rattle.std.specs.Prelude.{◌≡◌, ◌≤◌, ◌<◌, ◌++◌, ◌∷◌, [], true, false, IfOk, IsTrue, ◌↔◌, Some, length, slice_index_or};
 ghost use Rattle.std.specs.List.{AllPairs, filter, find, list_any};
 ghost use Rattle.std.specs.Option.{option_copied};
-ghost use Rattle.sorted_lists.specs.Sorting.{Rising, cut_by};
+ghost use Rattle.lists.specs.Sorting.{Rising, cut_by};
 ghost use Rattle.match_table.specs.Tables.{EntryTable, StandApart, takes, has_base, admits, last_of_masks, lesser_mask, masks_of, group_of};
 
 use crate::entries::Entry;

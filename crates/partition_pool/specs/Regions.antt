@@ -2,7 +2,7 @@
 use Rattle.std.specs.Prelude.{ℕ, ◌+◌, ◌-◌, ◌*◌, ◌^◌, ◌≤◌, ◌==◌, ◌&&◌, ◌||◌, Bool, if◌then◌else◌, nat_le, Option, List, [], ◌∷◌, map, count_by, All}
 use Rattle.std.specs.List.{range_with_len, find, list_all}
 use Rattle.addr_translate.specs.Blocks.{Block, IsAligned}
-use Rattle.sorted_lists.specs.Sorting.{put_by, sort_by, cut_by}
+use Rattle.lists.specs.Sorting.{put_by, sort_by, cut_by}
 
 -- ---- free regions
 

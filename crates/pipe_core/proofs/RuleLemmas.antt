@@ -9,7 +9,7 @@ use Rattle.std.proofs.lemmas.List.Elements.{All-nil, All-cons, All-head, All-tai
 use Rattle.addr_translate.specs.declared.shapes.GroupShape.{GroupShape}
 use Rattle.addr_translate.specs.Geometry.{Geometry, IsGeometry, IsGroup, group_in, no_group, array_count, arrays_before, group_number, bits_of, greatest_bits}
 use Rattle.addr_translate.proofs.GeometryLemmas.{bits_within, few_arrays}
-use Rattle.sorted_lists.specs.Sorting.{cut_by}
+use Rattle.lists.specs.Sorting.{cut_by}
 use Rattle.group_keys.specs.declared.uses.KeyUse.{KeyUse}
 use Rattle.group_keys.specs.declared.uses.KeyUse.TheVariants.{Single, Pair}
 use Rattle.group_keys.specs.Units.{UsedUnit, units_in, served_at, served_units, freed_at, freed_units}

@@ -3,7 +3,7 @@ use Rattle.std.proofs.Common.{◌≡◌, ℕ, zero, suc, ◌+◌, ◌^◌, ◌<�
 use Rattle.std.specs.List.{All, filter_map, cons_option, find, list_all, range_with_len}
 use Rattle.std.proofs.lemmas.Bool.{and_parts, leb-true, eqb-true}
 use Rattle.std.proofs.lemmas.List.Sums.{fails_before_first}
-use Rattle.sorted_lists.proofs.PlaceLemmas.{position_none}
+use Rattle.lists.proofs.PlaceLemmas.{position_none}
 use Rattle.std.proofs.lemmas.List.Elements.{All-head, All-tail}
 use Rattle.addr_translate.specs.Blocks.{Block}
 use Rattle.addr_translate.specs.Geometry.{Geometry, array_count, bits_of, least_bits_of, group_number}
@@ -11,7 +11,7 @@ use Rattle.partition_pool.specs.Regions.{IsPartition, is_free, free_block}
 use Rattle.partition_pool.specs.Pools.{PoolState, least_bits}
 use Rattle.partition_pool.proofs.Pools.{IsFound, is_found}
 use Rattle.group_keys.specs.Units.{keys_for}
-use Rattle.sorted_lists.specs.Sorting.{put_by, sort_by}
+use Rattle.lists.specs.Sorting.{put_by, sort_by}
 use Rattle.match_table.specs.declared.entries.Entry.{Entry}
 use Rattle.match_table.specs.Tables.{admits, is_apart}
 use Rattle.sketch_defs.specs.declared.kinds.Kind.{Kind}

@@ -3,7 +3,7 @@ use Rattle.std.specs.Prelude.{◌≡◌, ℕ, ◌<◌, Bool, true, List, length,
 use Rattle.std.specs.List.{All, AllPairs}
 use Rattle.addr_translate.specs.Geometry.{Geometry, array_count, group_number}
 use Rattle.group_keys.specs.Units.{keys_for}
-use Rattle.sorted_lists.specs.Sorting.{sort_by}
+use Rattle.lists.specs.Sorting.{sort_by}
 use Rattle.match_table.specs.declared.entries.Entry.{Entry}
 use Rattle.sketch_defs.specs.declared.kinds.Kind.TheVariants.{SumaxSum}
 use Rattle.sketch_defs.specs.Tasks.{Sketch}

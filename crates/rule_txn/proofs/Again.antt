@@ -12,7 +12,7 @@ use Rattle.group_keys.specs.declared.uses.KeyUse.{KeyUse}
 use Rattle.group_keys.specs.declared.uses.KeyUse.TheVariants.{Single, Pair}
 use Rattle.group_keys.specs.Units.{UsedUnit, unit_at, is_free, has_mask, xor_to, pairs_of, pair_for, keys_for, served, served_at, served_units}
 use Rattle.group_keys.proofs.UseLemmas.{of_found}
-use Rattle.sorted_lists.proofs.PlaceLemmas.{position_none}
+use Rattle.lists.proofs.PlaceLemmas.{position_none}
 use Rattle.switch_model.proofs.ListLemmas.{mapped_position}
 use Rattle.rule_txn.proofs.Places.{map-set, get_or-map}
 

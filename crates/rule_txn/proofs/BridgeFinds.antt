@@ -4,8 +4,8 @@ use Rattle.std.specs.Prelude.{◌&&◌}
 use Rattle.std.specs.List.{All, find}
 use Rattle.std.proofs.lemmas.Bool.{false≢true}
 use Rattle.std.proofs.lemmas.List.Elements.{All-nil, All-cons, All-head, All-tail}
-use Rattle.sorted_lists.specs.Sorting.{put_by, sort_by}
-use Rattle.sorted_lists.proofs.SortLemmas.{OnlyOne, find_sorted}
+use Rattle.lists.specs.Sorting.{put_by, sort_by}
+use Rattle.lists.proofs.SortLemmas.{OnlyOne, find_sorted}
 
 -- ---- tests that agree
 

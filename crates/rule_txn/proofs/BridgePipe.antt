@@ -5,8 +5,8 @@ use Rattle.std.specs.List.{All}
 use Rattle.std.proofs.lemmas.Bool.{eqb-true}
 use Rattle.std.proofs.lemmas.List.Elements.{All-nil, All-cons, All-head, All-tail, All-weaker}
 use Rattle.std.proofs.lemmas.List.FromFn.{length-map-range_with_len}
-use Rattle.sorted_lists.specs.Sorting.{put_by, sort_by}
-use Rattle.sorted_lists.proofs.SortLemmas.{All-sorted}
+use Rattle.lists.specs.Sorting.{put_by, sort_by}
+use Rattle.lists.proofs.SortLemmas.{All-sorted}
 use Rattle.addr_translate.specs.Geometry.{Geometry, IsGeometry, array_count, group_in}
 use Rattle.pkt_headers.specs.declared.packets.Packet.{Packet}
 use Rattle.reg_file.specs.declared.traits.Call.{Call}

@@ -5,7 +5,7 @@ use Rattle.std.specs.List.{All, list_any}
 use Rattle.std.proofs.lemmas.Bool.Decides.{nat_tests}
 use Rattle.std.proofs.lemmas.List.Elements.{All-head, All-tail}
 use Rattle.addr_translate.specs.Blocks.{Block}
-use Rattle.sorted_lists.specs.Sorting.{put_by, sort_by, cut_by}
+use Rattle.lists.specs.Sorting.{put_by, sort_by, cut_by}
 use Rattle.partition_pool.specs.Regions.{put_by_base, without, is_block}
 
 abbrev pub by_key : {X : Type 0} → (X → ℕ) → X → X → Bool

@@ -6,7 +6,7 @@ use Rattle.std.proofs.lemmas.List.Elements.{All-head, All-tail, All-map, All-wea
 use Rattle.addr_translate.specs.Blocks.{Block}
 use Rattle.addr_translate.specs.Geometry.{Geometry, array_count, bits_of, least_bits_of}
 use Rattle.partition_pool.specs.Pools.{PoolState, least_bits}
-use Rattle.sorted_lists.proofs.PlaceLemmas.{position_some}
+use Rattle.lists.proofs.PlaceLemmas.{position_some}
 use Rattle.reg_file.specs.Registers.{Dims}
 use Rattle.pipe_core.specs.Rules.{IsShaped}
 use Rattle.placer.specs.Sights.{Sight, region_in, region_for}

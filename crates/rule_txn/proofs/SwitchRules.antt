@@ -10,7 +10,7 @@ use Rattle.std.proofs.lemmas.List.FromFn.{length-map-range_with_len}
 use Rattle.std.proofs.lemmas.List.Kept.{AllPairs-filter}
 use Rattle.addr_translate.specs.Blocks.{Block}
 use Rattle.addr_translate.specs.Geometry.{Geometry, array_count}
-use Rattle.sorted_lists.proofs.SortLemmas.{All-sorted, find_sorted}
+use Rattle.lists.proofs.SortLemmas.{All-sorted, find_sorted}
 use Rattle.task_filters.specs.Filters.{are_disjoint}
 use Rattle.pkt_headers.specs.declared.packets.Packet.{Packet}
 use Rattle.reg_file.specs.Registers.{Contents}

@@ -7,7 +7,7 @@ use Rattle.std.proofs.lemmas.Bool.Decides.{nat_tests}
 use Rattle.std.proofs.lemmas.List.Elements.{All-head, All-tail, All-nil, All-cons, All-weaker}
 use Rattle.std.proofs.lemmas.List.FromFn.{length-map-range_with_len}
 use Rattle.addr_translate.specs.Geometry.{Geometry, array_count}
-use Rattle.sorted_lists.specs.Sorting.{put_by, sort_by}
+use Rattle.lists.specs.Sorting.{put_by, sort_by}
 use Rattle.match_table.specs.declared.entries.Entry.{Entry}
 use Rattle.match_table.specs.Tables.{EntryTable, has_base, admits, is_apart}
 use Rattle.match_table.proofs.ChangeLemmas.{any_sorted, length_sorted}

@@ -3,7 +3,7 @@ use Rattle.std.specs.Prelude.{ℕ, ◌+◌, ◌==◌, nat_le, Bool, List, [], �
 use Rattle.std.specs.List.{filter_map, flat_map, range_with_len}
 use Rattle.addr_translate.specs.Blocks.{Block}
 use Rattle.addr_translate.specs.Geometry.{Geometry, array_count, group_in, group_number}
-use Rattle.sorted_lists.specs.Sorting.{sort_by}
+use Rattle.lists.specs.Sorting.{sort_by}
 use Rattle.partition_pool.specs.Regions.{by_base}
 use Rattle.group_keys.specs.Units.{UsedUnit}
 use Rattle.match_table.specs.declared.entries.Entry.{Entry}

@@ -1,7 +1,7 @@
 use Rattle.std.proofs.Common.{◌≤◌, length, List, sym, ap, ◌∙◌, subst}
 use Rattle.std.specs.List.{filter, find}
 use Rattle.match_table.specs.declared.entries.Entry.{Entry}
-use Rattle.sorted_lists.specs.Sorting.{Rising}
+use Rattle.lists.specs.Sorting.{Rising}
 use Rattle.match_table.specs.Tables.{EntryTable, takes, comes_first}
 use Rattle.match_table.proofs.OrderLemmas.{rank_find}
 use Rattle.match_table.proofs.TableLemmas.{kept_rises, one_takes}

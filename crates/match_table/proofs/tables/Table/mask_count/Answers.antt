@@ -1,5 +1,5 @@
 use Rattle.std.proofs.Common.{◌≡◌, subst, length, vec_len, ap, ◌∙◌, arith}
-use Rattle.sorted_lists.specs.Sorting.{Rising}
+use Rattle.lists.specs.Sorting.{Rising}
 use Rattle.match_table.specs.Runs.{lasts}
 use Rattle.match_table.specs.Tables.{EntryTable, masks_of, by_rank, lesser_mask, same_mask}
 use Rattle.match_table.proofs.OrderLemmas.{rank_rises}

@@ -1,6 +1,6 @@
 use Rattle.std.proofs.Common.{◌≡◌, List, length, sym, ap, ◌∙◌, subst, arith}
 use Rattle.match_table.specs.declared.entries.Entry.{Entry}
-use Rattle.sorted_lists.specs.Sorting.{Rising}
+use Rattle.lists.specs.Sorting.{Rising}
 use Rattle.match_table.specs.Tables.{EntryTable, comes_first, masks_of}
 use Rattle.match_table.proofs.TableLemmas.{kept_rises, mask_count_is}
 use Rattle.match_table.proofs.tables.Table.mask_group.Goals as goal

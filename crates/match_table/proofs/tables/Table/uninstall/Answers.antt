@@ -1,7 +1,7 @@
 use Rattle.std.proofs.Common.{List, ap, ◌∙◌, arith}
 use Rattle.std.specs.List.{list_any}
 use Rattle.match_table.specs.Runs.{ends_from}
-use Rattle.sorted_lists.specs.Sorting.{cut_by}
+use Rattle.lists.specs.Sorting.{cut_by}
 use Rattle.match_table.specs.declared.entries.Entry.{Entry}
 use Rattle.match_table.specs.Tables.{EntryTable, has_base, comes_first, same_mask}
 use Rattle.match_table.proofs.ChangeLemmas.{any_sorted}

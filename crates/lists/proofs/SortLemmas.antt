@@ -3,7 +3,7 @@ use Rattle.std.proofs.Common.{◌≡◌, ℕ, zero, suc, ◌+◌, ◌<◌, ◌�
 use Rattle.std.specs.List.{All, AllPairs, find, position_or_len, list_any}
 use Rattle.std.proofs.lemmas.Bool.{false≢true}
 use Rattle.std.proofs.lemmas.List.Elements.{All-nil, All-cons, All-head, All-tail, All-weaker}
-use Rattle.sorted_lists.specs.Sorting.{put_by, sort_by, Rising, cut_by}
+use Rattle.lists.specs.Sorting.{put_by, sort_by, Rising, cut_by}
 
 -- of two elements exactly one comes before the other
 abbrev pub Differ : {X : Type 0} → (X → X → Bool) → X → X → Type 0

@@ -7,7 +7,7 @@ use Rattle.std.proofs.lemmas.List.Elements.{All-head, All-tail}
 use Rattle.std.proofs.lemmas.List.Folds.{find_at}
 use Rattle.std.proofs.lemmas.List.Sums.{prefix_len-le-length}
 use Rattle.std.proofs.lemmas.Option.{slice_get-get_or}
-use Rattle.sorted_lists.specs.Sorting.{put_by, cut_by}
+use Rattle.lists.specs.Sorting.{put_by, cut_by}
 
 place_some : (n len i : ℕ) (b : Bool) → ltb n len ≡ b → cond b (Some n) None ≡ Some i → (i ≡ n) × (i < len)
 place_some n len i true e h = let same : n ≡ i = cc in (sym same, grind (arith, nat_tests))

@@ -1,6 +1,6 @@
 -- Worked values of sorting.
 use Rattle.std.proofs.Common.{◌≡◌, ◌==◌, nat_lt, [], ◌∷◌, refl}
-use Rattle.sorted_lists.specs.Sorting.{put_by, sort_by, cut_by}
+use Rattle.lists.specs.Sorting.{put_by, sort_by, cut_by}
 
 put_between : put_by nat_lt 4 (1 ∷ 3 ∷ 5 ∷ []) ≡ 1 ∷ 3 ∷ 4 ∷ 5 ∷ []
 put_between = refl
