@@ -1,10 +1,10 @@
 -- Where `position` finds the separator, the text is cut.
-use Rattle.std.proofs.Common.{◌≡◌, ℕ, ◌+◌, ◌≤◌, ◌==◌, suc, Bool, true, false, not, cond, ltb, List, [], ◌∷◌, length, take, drop, Option, None, Some, position, ◌++◌, ◌&&◌, refl, ap, ◌∙◌, arith}
+use Rattle.std.proofs.Common.{◌≡◌, ℕ, ◌+◌, ◌≤◌, ◌==◌, suc, Bool, true, false, not, cond, ltb, List, [], ◌∷◌, length, take, drop, Option, None, Some, position, ◌++◌, ◌&&◌, refl, ap, ◌∙◌, arith, eqb-true}
 use Rattle.std.specs.List.{position_or_len, slice_split, onto_first, list_all}
 use Rattle.std.proofs.lemmas.Bool.{false≢true}
 use Rattle.std.proofs.lemmas.Bool.Decides.{nat_tests}
 use Rattle.std.proofs.lemmas.List.{take_all}
-use Rattle.texts.specs.Cuts.{front, back, parts}
+use Rattle.texts.specs.Cuts.{front, back, parts, tail_of}
 
 front_is : (p : ℕ → Bool) (xs : List ℕ) → front p xs ≡ take (position_or_len p xs) xs
 front_is p [] = refl
@@ -62,6 +62,15 @@ back_none p xs h =
     ] refl h
 
 pub ruleset cuts = (front_found, front_none, back_found, back_none)
+
+-- a text is what stands before the first separator, and the separator with what stands behind it
+pub joined : (c : ℕ) (xs : List ℕ) → xs ≡ front (λ b. b == c) xs ++ tail_of c (back (λ b. b == c) xs)
+joined c [] = refl
+joined c (x ∷ xs) =
+    elim (x == c) as (λ b. (x == c) ≡ b → x ∷ xs ≡ cond b [] (x ∷ front (λ y. y == c) xs) ++ tail_of c (cond b (Some xs) (back (λ y. y == c) xs))) [
+      | true ↦ λ t. ap (λ y. y ∷ xs) (eqb-true x c t)
+      | false ↦ λ t. ap (λ ys. x ∷ ys) (joined c xs)
+    ] refl
 
 -- the parts of what is left, if anything is left
 abbrev pub parts_behind : ℕ → Option (List ℕ) → List (List ℕ)

@@ -12,6 +12,11 @@ abbrev pub back : (ℕ → Bool) → List ℕ → Option (List ℕ)
 back p [] = None
 back p (b ∷ bs) = cond (p b) (Some bs) (back p bs)
 
+-- the separator with what stands behind it, if it is there
+abbrev pub tail_of : ℕ → Option (List ℕ) → List ℕ
+tail_of separator None = []
+tail_of separator (Some bytes) = separator ∷ bytes
+
 -- how many bytes a cut leaves to read, with the separator
 abbrev pub left_behind : Option (List ℕ) → ℕ
 left_behind None = 0
