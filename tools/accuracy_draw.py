@@ -1,0 +1,72 @@
+"""Error over memory, kinds side by side, by matplotlib."""
+from __future__ import annotations
+
+from typing import Dict, List, Sequence, Tuple
+
+from accuracy_measure import COUNTING, FLAGS, Measured
+
+PANELS = ((COUNTING, "counts", "average relative error"), (("hll",), "number of flows", "relative error"),
+          (("bloom",), "membership", "false positive rate"), (("mrac",), "flow sizes", "weighted mean relative error"),
+          (FLAGS, "flags", "share of wrong answers"))
+MARKS = "osD^vPX*"
+
+
+def curves(rows: Sequence[Measured], kinds: Tuple[str, ...]) -> Dict[str, List[Tuple[int, float]]]:
+    """By task its points, bytes of all rows and error."""
+    found: Dict[str, List[Tuple[int, float]]] = {}
+    for row in rows:
+        if row.task.kind in kinds and row.error is not None:
+            plural = "row" if row.task.rows == 1 else "rows"
+            label = f"{row.task.name}: {row.task.kind}, {row.task.rows} {plural}"
+            found.setdefault(label, []).append((row.task.rows * row.task.size * 4, row.error))
+    return {label: sorted(points) for label, points in found.items()}
+
+
+def size_text(octets: int) -> str:
+    for unit, name in ((1 << 20, "MiB"), (1 << 10, "KiB")):
+        if octets >= unit:
+            return f"{octets / unit:g} {name}"
+    return f"{octets} B"
+
+
+def ticks_of(sizes: Sequence[int]) -> List[int]:
+    """At most seven powers of two over the sizes."""
+    low, high = min(sizes).bit_length() - 1, max(sizes).bit_length() - 1
+    step = max(1, -(-(high - low) // 5))
+    return [1 << power for power in range(low, high + 1, step)]
+
+
+def draw_panel(axes: object, found: Dict[str, List[Tuple[int, float]]], title: str, measure: str) -> None:
+    sizes = [size for points in found.values() for size, _ in points]
+    errors = [error for points in found.values() for _, error in points if error > 0]
+    for mark, (label, points) in zip(MARKS * (1 + len(found) // len(MARKS)), found.items()):
+        axes.plot([size for size, _ in points], [error for _, error in points], marker=mark, label=label)
+    axes.set_xscale("log", base=2)
+    ticks = ticks_of(sizes)
+    axes.set_xticks(ticks, [size_text(tick) for tick in ticks], rotation=30, ha="right")
+    axes.minorticks_off()
+    if errors:  # logarithmic down to the least error, and 0 below it
+        axes.set_yscale("symlog", linthresh=min(errors), linscale=0.3)
+        axes.set_ylim(bottom=-min(errors) / 8)
+    axes.set_title(title)
+    axes.set_xlabel("memory of all rows")
+    axes.set_ylabel(measure)
+    axes.grid(True, alpha=0.3)
+    axes.legend(fontsize="small")
+
+
+def draw(name: str, rows: Sequence[Measured], title: str) -> None:
+    """Writes the picture; an ImportError where there is no matplotlib."""
+    import matplotlib
+    matplotlib.use("Agg")
+    matplotlib.rcParams["svg.hashsalt"] = "flymon"  # the same picture has the same bytes
+    from matplotlib import pyplot
+
+    panels = [(curves(rows, kinds), title_, measure) for kinds, title_, measure in PANELS]
+    panels = [panel for panel in panels if panel[0]]
+    figure, axes = pyplot.subplots(1, max(1, len(panels)), figsize=(4.6 * max(1, len(panels)), 4.2), squeeze=False)
+    for place, panel in zip(axes[0], panels):
+        draw_panel(place, *panel)
+    figure.suptitle(title)
+    figure.tight_layout()
+    figure.savefig(name, metadata={"Date": None} if name.endswith(".svg") else None, dpi=120)
