@@ -1,6 +1,7 @@
 """Error over memory, kinds side by side, by matplotlib."""
 from __future__ import annotations
 
+import math
 from typing import Dict, List, Sequence, Tuple
 
 from accuracy_measure import COUNTING, FLAGS, Measured
@@ -46,8 +47,9 @@ def draw_panel(axes: object, found: Dict[str, List[Tuple[int, float]]], title: s
     axes.set_xticks(ticks, [size_text(tick) for tick in ticks], rotation=30, ha="right")
     axes.minorticks_off()
     if errors:  # logarithmic down to the least error, and 0 below it
-        axes.set_yscale("symlog", linthresh=min(errors), linscale=0.3)
-        axes.set_ylim(bottom=-min(errors) / 8)
+        least = 10.0 ** math.floor(math.log10(min(errors)))
+        axes.set_yscale("symlog", linthresh=least, linscale=0.5)
+        axes.set_ylim(bottom=-least / 5)
     axes.set_title(title)
     axes.set_xlabel("memory of all rows")
     axes.set_ylabel(measure)

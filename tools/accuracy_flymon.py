@@ -7,7 +7,11 @@ import sys
 import tempfile
 from typing import Iterator, List, NamedTuple, Sequence, Tuple
 
+from accuracy_script import Block
+from flymon_output import Card, Dist, Fault, Query, parse
+
 MOST_BYTES = 1048576
+ANSWERS = {"query": Query, "card": Card, "dist": Dist}
 
 
 class Failed(Exception):
@@ -25,8 +29,8 @@ class Program(NamedTuple):
     profile: str
     folder: str
 
-    def run(self, script: bytes, capture: str) -> str:
-        """What a run writes. Lines of the error output that tell how building goes are passed on as they come."""
+    def run(self, script: bytes, capture: str) -> List[Block]:
+        """The blocks that a run writes. Lines of the error output that tell how building goes are passed on as they come."""
         name = os.path.join(self.folder, "script")
         with open(name, "wb") as file:
             file.write(script)
@@ -41,7 +45,7 @@ class Program(NamedTuple):
             if running.returncode:
                 raise Failed(running.returncode, told[-1] if told else "no message")
             output.seek(0)
-            return output.read().decode("ascii")
+            return parse(output.read())
 
 
 def portions(questions: Sequence[str], room: int) -> Iterator[Sequence[str]]:
@@ -56,22 +60,22 @@ def portions(questions: Sequence[str], room: int) -> Iterator[Sequence[str]]:
         yield questions[begin:]
 
 
-def answer_lines(question: str, lines: Iterator[str]) -> List[str]:
-    first = next(lines)
-    block = [first]
-    if question.startswith("dist ") and not first.startswith("refused "):
-        while block[-1] != "end":
-            block.append(next(lines))
-    return block
+def expect(questions: Sequence[str], blocks: Sequence[Block]) -> None:
+    """Each question has an answer of its form and task."""
+    for question, block in zip(questions, blocks):
+        word, task = question.split()[:2]
+        if not isinstance(block, ANSWERS[word]) or block.task != task:
+            raise Fault(block.line, f"no answer to `{question}`")
+    if len(blocks) != len(questions):
+        raise Fault(blocks[-1].line if blocks else 1, f"{len(questions)} answers are due, {len(blocks)} came")
 
 
-def ask(program: Program, stem: str, questions: Sequence[str], capture: str) -> Tuple[List[str], List[List[str]]]:
-    """The lines of the stem, one a command, and those of each question behind it."""
-    answers: List[List[str]] = []
-    head: List[str] = []
+def ask(program: Program, stem: str, questions: Sequence[str], capture: str) -> List[Block]:
+    """The answers to questions behind the commands of a stem, one a question."""
+    answers: List[Block] = []
+    commands = stem.count("\n")
     for portion in portions(questions, MOST_BYTES - len(stem)):
-        script = stem + "".join(question + "\n" for question in portion)
-        lines = iter(program.run(script.encode("ascii"), capture).splitlines())
-        head = [next(lines) for _ in stem.splitlines()]
-        answers.extend(answer_lines(question, lines) for question in portion)
-    return head, answers
+        blocks = program.run((stem + "".join(question + "\n" for question in portion)).encode("ascii"), capture)
+        expect(portion, blocks[commands:])
+        answers += blocks[commands:]
+    return answers

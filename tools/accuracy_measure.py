@@ -14,7 +14,7 @@ from typing import Dict, List, Optional, Sequence, Tuple
 
 from accuracy_exact import Counted
 from accuracy_hash import Hash, cells_of, found_in, places_of
-from accuracy_script import Task, Value
+from accuracy_script import Block, Task, Value
 
 TOP = 4294967295
 MOST_OUTSIDE = 10000
@@ -155,22 +155,14 @@ def tell(measured: Measured, value: Value, fault: Optional[str]) -> None:
         measured.broken.append(f"{task.name} {task.at(value)}: {fault}")
 
 
-def number_in(task: Task, line: Sequence[str]) -> str:
-    """The answer in a line of a query."""
-    words = line[0].split()
-    if words[:2] != ["query", task.name] or len(words) != 3:
-        raise ValueError(f"flymon wrote `{line[0]}` where an answer of {task.name} was due")
-    return words[2]
-
-
-def measure_numbers(counted: Counted, answers: Sequence[Sequence[str]], hashing: Hash) -> Measured:
+def measure_numbers(counted: Counted, answers: Sequence[Block], hashing: Hash) -> Measured:
     """Counting sketches and flags, flow by flow."""
     task, flows = counted.task, counted.flows
     measured = Measured(task, counted.packets, len(flows))
     book = Textbook(hashing, task, flows)
     off, relative, bits = [], [], 0
-    for (value, exact), line in zip(flows.items(), answers):
-        answer = int(number_in(task, line))
+    for (value, exact), block in zip(flows.items(), answers):
+        answer = int(block.answer)
         tell(measured, value, fault_of(book, value, exact, answer))
         off.append(abs(answer - exact))
         bits += bin(answer ^ exact).count("1")
@@ -186,11 +178,11 @@ def measure_numbers(counted: Counted, answers: Sequence[Sequence[str]], hashing:
     return measured
 
 
-def measure_bloom(counted: Counted, asked: Questions, answers: Sequence[Sequence[str]], hashing: Hash) -> Measured:
+def measure_bloom(counted: Counted, asked: Questions, answers: Sequence[Block], hashing: Hash) -> Measured:
     task, flows = counted.task, counted.flows
     measured = Measured(task, counted.packets, len(flows), outside=len(asked.outside), synthetic=len(asked.synthetic))
     book = Textbook(hashing, task, flows)
-    yes = [number_in(task, line) == "yes" for line in answers]
+    yes = [block.answer == "yes" for block in answers]
     came = len(asked.present)
     for value, is_yes in zip(asked.present, yes):
         tell(measured, value, None if is_yes else "answer no, though it came")
@@ -207,17 +199,19 @@ def alpha(size: int) -> Tuple[int, int]:
     return fixed.get(size, (7213 * size, 10 * (1000 * size + 1079)))
 
 
-def measure_hll(counted: Counted, answers: Sequence[Sequence[str]], hashing: Hash) -> Measured:
-    """`card NAME zeros A z Z raw C`, each number beside that of the textbook's registers."""
+def measure_hll(counted: Counted, answers: Sequence[Block], hashing: Hash) -> Measured:
+    """The three numbers of `card`, each beside that of the textbook's registers."""
     task, distinct = counted.task, len(counted.flows)
     row = Textbook(hashing, task, counted.flows).cells[0]
     zeros = task.size - len(row)
     z = zeros * 2 ** 33 + sum(2 ** (33 - rank) for rank in row.values())
     over, under = alpha(task.size)
-    wanted = f"card {task.name} zeros {zeros} z {z} raw {over * task.size ** 2 * 2 ** 33 // (under * z)}"
-    measured = Measured(task, counted.packets, distinct, estimate=int(answers[0][0].split()[-1]))
-    if answers[0][0] != wanted:
-        measured.broken.append(f"{task.name} all flows: `{answers[0][0]}` is not `{wanted}`")
+    raw = over * task.size ** 2 * 2 ** 33 // (under * z)
+    card = answers[0]
+    measured = Measured(task, counted.packets, distinct, estimate=card.raw)
+    if (card.zeros, card.z, card.raw) != (zeros, z, raw):
+        measured.broken.append(f"{task.name} all flows: zeros {card.zeros} z {card.z} raw {card.raw}, where its registers"
+                               f" come to zeros {zeros} z {z} raw {raw}")
     if zeros:
         measured.linear = round(task.size * math.log(task.size / zeros))
     if distinct:
@@ -234,15 +228,12 @@ def wmre(exact: Counter, told: Counter) -> Optional[float]:
     return apart / mean if mean else None
 
 
-def measure_mrac(counted: Counted, answers: Sequence[Sequence[str]], hashing: Hash) -> Measured:
+def measure_mrac(counted: Counted, answers: Sequence[Block], hashing: Hash) -> Measured:
     task = counted.task
     row = Textbook(hashing, task, counted.flows).cells[0]
     wanted = Counter(min(cell, TOP) for cell in row.values())
     wanted[0] += task.size - len(row)
-    told = Counter()
-    for line in answers[0][1:-1]:
-        _, size, _, cells = line.split()
-        told[int(size)] = int(cells)
+    told = Counter(dict(answers[0].sizes))
     measured = Measured(task, counted.packets, len(counted.flows))
     wrong = sorted(size for size in wanted.keys() | told.keys() if wanted[size] != told[size])
     if wrong:
@@ -253,7 +244,7 @@ def measure_mrac(counted: Counted, answers: Sequence[Sequence[str]], hashing: Ha
     return measured
 
 
-def measure(counted: Counted, asked: Questions, answers: Sequence[Sequence[str]], hashing: Hash) -> Measured:
+def measure(counted: Counted, asked: Questions, answers: Sequence[Block], hashing: Hash) -> Measured:
     kind = counted.task.kind
     if kind == "bloom":
         return measure_bloom(counted, asked, answers, hashing)

@@ -3,7 +3,9 @@ from __future__ import annotations
 
 import ipaddress
 from dataclasses import dataclass, field, replace
-from typing import Dict, Iterator, List, NamedTuple, Sequence, Tuple
+from typing import Dict, List, NamedTuple, Sequence, Tuple
+
+from flymon_output import Done, Fault, Packets
 
 # Name, bits and first byte in the key vector of each field, in order.
 FIELDS = (("src_ip", 32, 0), ("dst_ip", 32, 4), ("src_port", 16, 8), ("dst_port", 16, 10), ("proto", 8, 12), ("tos", 8, 13),
@@ -12,6 +14,7 @@ PLACES = {name: place for place, (name, _, _) in enumerate(FIELDS)}
 MOST_PACKETS = 4294967295
 CHANGES = ("add", "resize", "remove", "release")
 Value = Tuple[int, ...]
+Block = NamedTuple  # one of flymon_output
 
 
 class Part(NamedTuple):
@@ -113,13 +116,6 @@ class Ended(NamedTuple):
     taken: List[Tuple[int, int]]
 
 
-def skip_block(first: str, lines: Iterator[str]) -> None:
-    """Passes the further lines of an answer, where it has more than one."""
-    if first.split()[0] in ("read", "frozen", "dist", "tasks", "stat"):
-        while next(lines) != "end":
-            pass
-
-
 def change(tasks: Dict[str, Task], words: Sequence[str], start: int) -> None:
     """A change that the switch carried out."""
     if words[0] == "add":
@@ -131,22 +127,19 @@ def change(tasks: Dict[str, Task], words: Sequence[str], start: int) -> None:
         del tasks[words[1]]
 
 
-def follow(script: bytes, output: str) -> Ended:
-    """Goes through a script beside what a whole run of it wrote."""
-    lines = iter(output.splitlines())
+def follow(script: bytes, blocks: Sequence[Block]) -> Ended:
+    """Goes through a script beside the blocks of its output, one a command."""
     tasks: Dict[str, Task] = {}
     packets, stem, taken = 0, [], []
-    for words in commands_of(script):
-        line = next(lines)
+    commands = commands_of(script)
+    if len(blocks) != len(commands):
+        raise Fault(blocks[-1].line if blocks else 1, f"{len(commands)} commands have {len(blocks)} answers")
+    for words, block in zip(commands, blocks):
         if words[0] in CHANGES + ("packets", "run"):
             stem.append(" ".join(words))
-        if line.startswith("refused "):
-            continue
-        if words[0] in CHANGES:
+        if isinstance(block, Packets):
+            taken.append((int(words[1]) if len(words) > 1 else MOST_PACKETS, block.count))
+            packets += block.count
+        elif isinstance(block, Done):
             change(tasks, words, packets)
-        elif words[0] in ("packets", "run"):
-            taken.append((int(words[1]) if len(words) > 1 else MOST_PACKETS, int(line.split()[1])))
-            packets += taken[-1][1]
-        else:
-            skip_block(line, lines)
     return Ended(list(tasks.values()), packets, "".join(line + "\n" for line in stem), taken)

@@ -10,6 +10,7 @@ from accuracy_flymon import Program, ask
 from accuracy_hash import Hash
 from accuracy_measure import Measured, measure, questions_for
 from accuracy_script import Task
+from flymon_output import Refused
 
 
 def profile_for(size: int, hash_key: bytes) -> str:
@@ -19,21 +20,24 @@ def profile_for(size: int, hash_key: bytes) -> str:
     return f'version = 2\nlog_blocks = 5\nhash_key = "{hash_key.hex()}"\n' + group * 12
 
 
+def add_of(task: Task) -> str:
+    return " ".join(task.words[:7] + (f"memory={task.size}",)) + "\n"
+
+
 def stem_of(task: Task, end: int) -> str:
     before = f"packets {task.start}\n" if task.start else ""
-    add = " ".join(task.words[:7] + (f"memory={task.size}",))
-    return f"{before}{add}\npackets {end - task.start}\n"
+    return f"{before}{add_of(task)}packets {end - task.start}\n"
 
 
 def measure_one(program: Program, counted: Counted, capture: str, end: int, hashing: Hash, absent: int) -> Optional[Measured]:
     """A task alone; nothing where the switch refuses the size, which is told."""
-    asked = questions_for(counted, absent)
-    head, answers = ask(program, stem_of(counted.task, end), asked.lines() or ["show"], capture)
-    refused = [line for line in head if line.startswith("refused ")]
-    if refused:
-        print(f"size {counted.task.size}: {refused[0]}")
+    judged = program.run(add_of(counted.task).encode("ascii"), capture)[0]
+    if isinstance(judged, Refused):
+        print(f"size {counted.task.size}: refused add {judged.task} {judged.reason}")
         return None
-    return measure(counted, asked, answers if asked.lines() else [], hashing)
+    asked = questions_for(counted, absent)
+    answers = ask(program, stem_of(counted.task, end), asked.lines(), capture)
+    return measure(counted, asked, answers, hashing)
 
 
 def sweep(program: Program, hash_key: bytes, counts: Sequence[Counted], sizes: Sequence[int], capture: str, end: int,

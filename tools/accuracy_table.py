@@ -19,8 +19,9 @@ def remark(measured: Measured) -> str:
     """What the kind has beside the common columns."""
     kind = measured.task.kind
     if kind == "bloom":
-        return (f"{measured.false_positives} of {measured.outside} that came elsewhere and {measured.synthetic} made up"
-                f" answered yes: {shown(measured.false_positive_rate, 100, ' %')}")
+        asked = f"{measured.outside} of the capture's others, {measured.synthetic} made up"
+        rate = shown(measured.false_positive_rate, 100, " %")
+        return f"{measured.false_positives} of {measured.outside + measured.synthetic} absent say yes: {rate} ({asked})"
     if kind == "hll":
         corrected = "" if measured.linear is None else f", {measured.linear} by linear counting"
         return f"estimate {measured.estimate} of {measured.flows}{corrected}"
