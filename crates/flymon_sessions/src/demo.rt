@@ -1,9 +1,9 @@
 //! Runs over generated files.
 ghost use Rattle.std.specs.Prelude.{◌<◌};
 
-use crate::runs::{Ending, Limits, expect_ending, run_over};
 use crate::scripts::USAGE;
 use flymon_engine::Status;
+use flymon_trials::{Ending, Limits, expect_ending, run_over};
 use reg_file::RamFile;
 use std::alloc::{AllocError, Global};
 use std::test::Fail;
@@ -61,7 +61,7 @@ card dests zeros 64 z 549755813888 raw 45\ndist sizes\nsize 0 cells 32\nend\n",
         let ending = demo_over(alloc, words)?;
         let mut out = String::from_str(alloc, head)?;
         out.push_str(TAIL)?;
-        expect_ending(&rt, &words, &ending, Status::Done, out.as_bytes(), b"");
+        expect_ending(&words, &ending, Status::Done, out.as_bytes(), b"")?;
     }
     Ok(())
 }
@@ -77,13 +77,12 @@ fn wants_a_seed_and_a_count(rt: HostRuntime) -> Result<(), Fail> {
         "demo 0 1 1",
     ] {
         expect_ending(
-            &rt,
             &words,
             &demo_over(alloc, words)?,
             Status::Usage,
             b"",
             USAGE.as_bytes(),
-        );
+        )?;
     }
     Ok(())
 }

@@ -1,7 +1,8 @@
 //! The operations that a run makes on the registers, where both ways have the same order.
-use crate::captures::{FIRST, SECOND, Sent, capture_of_packets};
-use crate::runs::{LIMITS, WORDS, run_over, session_files};
 use flymon_engine::Status;
+use flymon_trials::{
+    ADD_ONE, FIRST, LIMITS, SECOND, Sent, WORDS, capture_of_packets, run_over, session_files,
+};
 use reg_file::{Call, TraceFile};
 use stateful_ops::Op;
 use std::alloc::{AllocError, Global};
@@ -15,12 +16,7 @@ const EMPTY: Sent = Sent {
     length: 0,
 };
 
-/// Additions that are made to any register: of a packet, of the length of one, and of nothing.
-const ADD_ONE: Op = Op::CondAdd {
-    p1: 1,
-    p2: 4_294_967_295,
-};
-
+/// The addition of the length of a packet, and of nothing.
 const ADD_LENGTH: Op = Op::CondAdd {
     p1: 54,
     p2: 4_294_967_295,
@@ -96,17 +92,6 @@ const PASSAGES: [Passage; 9] = [
         &[],
     ),
 ];
-
-/// Additions of a packet at these arrays and addresses.
-pub(crate) fn additions(alloc: Global, places: &[(u32, u32)]) -> Result<Vec<Call>, AllocError> {
-    let mut calls = Vec::new(alloc);
-    'calls: for place in places {
-        let (array, addr) = *place;
-        let op = ADD_ONE;
-        calls.push(Call { array, addr, op })?;
-    }
-    Ok(calls)
-}
 
 fn calls_of(alloc: Global, places: &[(u32, u32, Op)]) -> Result<Vec<Call>, AllocError> {
     let mut calls = Vec::new(alloc);

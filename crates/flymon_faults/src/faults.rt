@@ -1,11 +1,9 @@
 //! Runs that stop before their script is done.
-use crate::captures::capture_of;
-use crate::changes::{THREE_TASKS, THREE_TASKS_OUT};
-use crate::runs::{
-    Ending, FLIGHT, LIMITS, Limits, REPLAY, ROOM, SCRIPT, WORDS, expect_ending, run_failing,
-    run_over, session_files,
-};
 use flymon_engine::Status;
+use flymon_trials::{
+    Ending, FLIGHT, LIMITS, Limits, REPLAY, ROOM, SCRIPT, THREE_TASKS, THREE_TASKS_OUT, WORDS,
+    capture_of, expect_ending, run_failing, run_over, session_files,
+};
 use reg_file::{RamFile, TraceFile};
 use std::alloc::{AllocError, Global};
 use std::process::Abort;
@@ -23,13 +21,12 @@ fn stops_where_the_output_is_full(rt: HostRuntime) -> Result<(), Fail> {
         let files = session_files(alloc, SCRIPT.as_bytes(), capture_of(alloc, &[1, 1, 2, 1])?)?;
         let ending = run_over(alloc, words, files, &mut RamFile::new(), limits)?;
         expect_ending(
-            &rt,
             &words,
             &ending,
             Status::OutputFault,
             b"added ",
             b"output fault\n",
-        );
+        )?;
     }
     Ok(())
 }
@@ -69,13 +66,12 @@ fn stops_where_the_device_fails(rt: HostRuntime) -> Result<(), Fail> {
             let mut regs = TraceFile::new(alloc, 16, vec![in alloc; failing]?)?;
             let ending = run_over(alloc, words, files, &mut regs, LIMITS)?;
             expect_ending(
-                &rt,
                 &(words, failing),
                 &ending,
                 Status::DeviceFault,
                 out.as_bytes(),
                 b"device fault\n",
-            );
+            )?;
         }
     }
     assert_eq!(rt; Status::DeviceFault.code(), 8);

@@ -1,9 +1,9 @@
 //! Sessions that are carried out to their end.
-use crate::captures::{big_capture_of, capture_of};
-use crate::runs::{
-    Limits, ROOM, SCRIPT, WORDS, expect_done_over, expect_ending, run_over, session_files,
-};
 use flymon_engine::Status;
+use flymon_trials::{
+    Limits, ROOM, SCRIPT, WORDS, big_capture_of, capture_of, expect_done_over, expect_ending,
+    run_over, session_files,
+};
 use reg_file::RamFile;
 use std::test::Fail;
 
@@ -20,13 +20,12 @@ fn counts_packets_by_source(rt: HostRuntime) -> Result<(), Fail> {
             let files = session_files(alloc, SCRIPT.as_bytes(), capture_of(alloc, &[1, 1, 2, 1])?)?;
             let ending = run_over(alloc, words, files, &mut RamFile::new(), limits)?;
             expect_ending(
-                &rt,
                 &(words, piece),
                 &ending,
                 Status::Done,
                 b"added hot\npackets 4\nread hot rows 1 size 32 start 0\ncell 0 1 1\ncell 0 18 3\nend\nquery hot 3\n",
                 b"",
-            );
+            )?;
         }
     }
     Ok(())
@@ -37,7 +36,6 @@ fn counts_packets_of_a_big_endian_capture(rt: HostRuntime) -> Result<(), Fail> {
     let alloc = rt.alloc();
     let capture = big_capture_of(alloc, &[1, 1, 2, 1])?;
     expect_done_over(
-        &rt,
         alloc,
         SCRIPT,
         &capture,
@@ -63,7 +61,6 @@ fn counts_any_frame(rt: HostRuntime) -> Result<(), Fail> {
     }
     // A frame without an IPv4 header has no source, and the hash of nothing is 0.
     expect_done_over(
-        &rt,
         alloc,
         SCRIPT,
         &capture,
@@ -90,7 +87,6 @@ fn counts_packets_by_ipv6_source(rt: HostRuntime) -> Result<(), Fail> {
     let mut capture = capture_of(alloc, &[1])?;
     capture.extend_from_slice(IPV6_RECORD)?;
     expect_done_over(
-        &rt,
         alloc,
         IPV6_SCRIPT,
         &capture,
@@ -106,7 +102,6 @@ fn counts_no_packet(rt: HostRuntime) -> Result<(), Fail> {
     let alloc = rt.alloc();
     let capture = capture_of(alloc, &[])?;
     expect_done_over(
-        &rt,
         alloc,
         SCRIPT,
         &capture,

@@ -7,15 +7,15 @@ use std::test::Fail;
 fn reads_a_file_back(rt: HostRuntime) -> Result<(), Fail> {
     let alloc = rt.alloc();
     let bytes = b"run\n\x00\xff\x80";
-    fs::write(&rt, "flymon_rows_script", bytes)?;
+    fs::write(&rt, "flymon_device_script", bytes)?;
     let mut files = RealFiles::new(alloc, rt);
-    assert_eq!(rt; files.attach(2, "flymon_rows_no_such_file"), Err(Failed));
-    files.attach(1, "flymon_rows_script")?;
+    assert_eq!(rt; files.attach(2, "flymon_device_no_such_file"), Err(Failed));
+    files.attach(1, "flymon_device_script")?;
     assert_eq!(rt;
         read_whole(alloc, &mut files, 1, 100)?.as_slice(),
         bytes.as_slice()
     );
-    fs::remove_file(&rt, "flymon_rows_script")?;
+    fs::remove_file(&rt, "flymon_device_script")?;
     Ok(())
 }
 

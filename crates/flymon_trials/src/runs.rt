@@ -7,38 +7,38 @@ use fm_io::{MemFile, MemFiles, MemSink};
 use reg_file::{RamFile, RegFile};
 use std::alloc::{AllocError, Global};
 use std::fmt::Debug;
-use std::process::Abort;
+use std::test::Fail;
 
 /// A script that counts packets by their source, and reads the counters whole and one of them alone.
-pub(crate) const SCRIPT: &str =
+pub const SCRIPT: &str =
     "add hot cms 1 key=src_ip attr=packets filter=all memory=32\nrun\nread hot\nquery hot src_ip:10.0.0.1\n";
 
 /// Room for all that a run of these tests writes.
-pub(crate) const ROOM: usize = 4096;
+pub const ROOM: usize = 4096;
 
 /// Small pieces, and room for all.
-pub(crate) const LIMITS: Limits = Limits {
+pub const LIMITS: Limits = Limits {
     piece: 7,
     room: ROOM,
     err_room: ROOM,
 };
 
 /// The ways of packets: one after another, and before several groups at once.
-pub(crate) const WAYS: [&str; 2] = ["replay", "flight"];
+pub const WAYS: [&str; 2] = ["replay", "flight"];
 
 /// The words of a run of the files that `session_files` makes, in each way.
-pub(crate) const REPLAY: &str = "replay - S C";
+pub const REPLAY: &str = "replay - S C";
 
-pub(crate) const FLIGHT: &str = "flight - S C";
+pub const FLIGHT: &str = "flight - S C";
 
-pub(crate) const WORDS: [&str; 2] = [REPLAY, FLIGHT];
+pub const WORDS: [&str; 2] = [REPLAY, FLIGHT];
 
 /// The same with the profile that `profiled_files` adds.
-pub(crate) const PROFILED: [&str; 2] = ["replay P S C", "flight P S C"];
+pub const PROFILED: [&str; 2] = ["replay P S C", "flight P S C"];
 
 /// At most `piece` bytes are read or written at once; `out` and `err` have room for so many.
 #[derive(Clone, Copy)]
-pub(crate) struct Limits {
+pub struct Limits {
     pub piece: usize,
     pub room: usize,
     pub err_room: usize,
@@ -47,14 +47,14 @@ pub(crate) struct Limits {
 
 /// How a run ended, and its sinks.
 #[derive(Drop)]
-pub(crate) struct Ending {
+pub struct Ending {
     pub status: Status,
     pub out: MemSink,
     pub err: MemSink,
 }
 
 /// The script under the name `S`, and the capture under the name `C`.
-pub(crate) fn session_files(
+pub fn session_files(
     alloc: Global,
     script: &[u8],
     capture: Vec<u8>,
@@ -73,7 +73,7 @@ pub(crate) fn session_files(
 }
 
 /// The same, and the profile under the name `P`.
-pub(crate) fn profiled_files(
+pub fn profiled_files(
     alloc: Global,
     profile: &str,
     script: &[u8],
@@ -97,7 +97,7 @@ fn words_of(alloc: Global, line: &str) -> Result<Vec<String>, AllocError> {
 }
 
 /// Runs the program on these words, files and registers.
-pub(crate) fn run_over<R: RegFile>(
+pub fn run_over<R: RegFile>(
     alloc: Global,
     words: &str,
     files: Vec<MemFile>,
@@ -108,7 +108,7 @@ pub(crate) fn run_over<R: RegFile>(
 }
 
 /// The same, where the calls on the files that have these numbers fail.
-pub(crate) fn run_failing<R: RegFile>(
+pub fn run_failing<R: RegFile>(
     alloc: Global,
     words: &str,
     files: Vec<MemFile>,
@@ -124,66 +124,66 @@ pub(crate) fn run_failing<R: RegFile>(
     Ok(Ending { status, out, err })
 }
 
-/// Aborts unless a run ended in this status and sent these bytes. The message names the case.
-pub(crate) fn expect_ending(
-    rt: &impl Abort,
+/// Fails unless a run ended in this status and sent these bytes. The message names the case.
+pub fn expect_ending(
     case: &impl Debug,
     ending: &Ending,
     status: Status,
     out: &[u8],
     err: &[u8],
-) {
-    assert_eq!(rt; ending.status, status, "at {case:?}");
-    assert_eq!(rt; ending.out.sent(), out, "at {case:?}");
-    assert_eq!(rt; ending.err.sent(), err, "at {case:?}");
+) -> Result<(), Fail> {
+    let (sent, told) = (ending.out.sent(), ending.err.sent());
+    if ending.status == status && sent == out && told == err {
+        return Ok(());
+    }
+    let (sent, told) = (text_of(sent), text_of(told));
+    Err(Fail::new(format_args!(
+        "at {case:?}: {:?}, sent {sent:?}, told {told:?}",
+        ending.status
+    )))
 }
 
-/// Aborts unless the script is carried out to its end over this capture, and writes this, in each way.
-pub(crate) fn expect_done_over(
-    rt: &impl Abort,
+/// The text of what was sent, for a message.
+fn text_of(bytes: &[u8]) -> &str {
+    str::from_utf8(bytes).unwrap_or("no text")
+}
+
+/// A script, the packets of its capture, and what the run writes.
+pub type Session = (&'static str, &'static [Sent], &'static str);
+
+/// Fails unless the script is carried out to its end over this capture, and writes this, in each way.
+pub fn expect_done_over(
     alloc: Global,
     script: &str,
     capture: &[u8],
     out: &str,
-) -> Result<(), AllocError> {
+) -> Result<(), Fail> {
     'ways: for words in WORDS {
         let capture = Vec::from_slice(alloc, capture)?;
         let files = session_files(alloc, script.as_bytes(), capture)?;
         let ending = run_over(alloc, words, files, &mut RamFile::new(), LIMITS)?;
         let case = (words, script);
-        expect_ending(rt, &case, &ending, Status::Done, out.as_bytes(), b"");
+        expect_ending(&case, &ending, Status::Done, out.as_bytes(), b"")?;
     }
     Ok(())
 }
 
-/// A script, the packets of its capture, and what the run writes.
-pub(crate) type Session = (&'static str, &'static [Sent], &'static str);
-
-/// Aborts unless the script is carried out to its end over a capture of these packets, and writes this, in each way.
-pub(crate) fn expect_done(
-    rt: &impl Abort,
-    alloc: Global,
-    session: Session,
-) -> Result<(), AllocError> {
+/// Fails unless the script is carried out to its end over a capture of these packets, and writes this, in each way.
+pub fn expect_done(alloc: Global, session: Session) -> Result<(), Fail> {
     let (script, packets, out) = session;
     let capture = capture_of_packets(alloc, packets)?;
-    expect_done_over(rt, alloc, script, &capture, out)
+    expect_done_over(alloc, script, &capture, out)
 }
 
 /// The same for the switch of a profile.
-pub(crate) fn expect_done_on(
-    rt: &impl Abort,
-    alloc: Global,
-    profile: &str,
-    session: Session,
-) -> Result<(), AllocError> {
+pub fn expect_done_on(alloc: Global, profile: &str, session: Session) -> Result<(), Fail> {
     let (script, packets, out) = session;
     'ways: for words in PROFILED {
         let capture = capture_of_packets(alloc, packets)?;
         let files = profiled_files(alloc, profile, script.as_bytes(), capture)?;
         let ending = run_over(alloc, words, files, &mut RamFile::new(), LIMITS)?;
         let case = (words, script);
-        expect_ending(rt, &case, &ending, Status::Done, out.as_bytes(), b"");
+        expect_ending(&case, &ending, Status::Done, out.as_bytes(), b"")?;
     }
     Ok(())
 }

@@ -1,6 +1,5 @@
 //! What tasks answer, and what they refuse.
-use crate::captures::{FIRST, SECOND, Sent};
-use crate::runs::{Session, expect_done};
+use flymon_trials::{FIRST, SECOND, Sent, Session, expect_done};
 use std::test::Fail;
 
 /// Packets from 10.0.0.1 whose lengths come to more than 2^32-1.
@@ -125,7 +124,7 @@ packets 1\nquery s src_ip:10.0.0.1\npackets 1\nquery s src_ip:10.0.0.1\npackets 
 #[test]
 fn answers_by_the_kind(rt: HostRuntime) -> Result<(), Fail> {
     for session in KINDS {
-        expect_done(&rt, rt.alloc(), session)?;
+        expect_done(rt.alloc(), session)?;
     }
     Ok(())
 }
@@ -169,7 +168,7 @@ run\nread w\n",
 #[test]
 fn counts_what_the_filter_matches(rt: HostRuntime) -> Result<(), Fail> {
     for session in FILTERS {
-        expect_done(&rt, rt.alloc(), session)?;
+        expect_done(rt.alloc(), session)?;
     }
     Ok(())
 }
@@ -212,7 +211,7 @@ packets 0\npackets 2\npackets 5\npackets 1\nrun\nquery hot src_ip:10.0.0.1\n",
 #[test]
 fn carries_out_each_command(rt: HostRuntime) -> Result<(), Fail> {
     for session in OTHERS {
-        expect_done(&rt, rt.alloc(), session)?;
+        expect_done(rt.alloc(), session)?;
     }
     Ok(())
 }

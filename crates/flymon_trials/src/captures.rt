@@ -31,7 +31,7 @@ const SYN: u8 = 2;
 
 /// A TCP packet to 192.168.1.1, with its length on the wire. 54 bytes of it are captured.
 #[derive(Clone, Copy, Debug)]
-pub(crate) struct Sent {
+pub struct Sent {
     /// The low 24 bits of its source address, 10.x.y.z.
     pub source: u32,
     pub flags: u8,
@@ -39,38 +39,38 @@ pub(crate) struct Sent {
 }
 
 /// A SYN from 10.0.0.1.
-pub(crate) const FIRST: Sent = Sent {
+pub const FIRST: Sent = Sent {
     source: 1,
     flags: SYN,
     length: 54,
 };
 
 /// A SYN from 10.0.0.2.
-pub(crate) const SECOND: Sent = Sent {
+pub const SECOND: Sent = Sent {
     source: 2,
     flags: SYN,
     length: 54,
 };
 
 /// A SYN from 10.0.0.3.
-pub(crate) const THIRD: Sent = Sent {
+pub const THIRD: Sent = Sent {
     source: 3,
     flags: SYN,
     length: 54,
 };
 
 /// A capture of one packet from 10.0.0.x for each x of `sources`, 70 bytes a record.
-pub(crate) fn capture_of(alloc: Global, sources: &[u32]) -> Result<Vec<u8>, AllocError> {
+pub fn capture_of(alloc: Global, sources: &[u32]) -> Result<Vec<u8>, AllocError> {
     capture_with(alloc, HEADER, RECORD, sources)
 }
 
 /// The same capture in big-endian order and nanoseconds.
-pub(crate) fn big_capture_of(alloc: Global, sources: &[u32]) -> Result<Vec<u8>, AllocError> {
+pub fn big_capture_of(alloc: Global, sources: &[u32]) -> Result<Vec<u8>, AllocError> {
     capture_with(alloc, BIG_HEADER, BIG_RECORD, sources)
 }
 
 /// A little-endian capture of these packets.
-pub(crate) fn capture_of_packets(alloc: Global, packets: &[Sent]) -> Result<Vec<u8>, AllocError> {
+pub fn capture_of_packets(alloc: Global, packets: &[Sent]) -> Result<Vec<u8>, AllocError> {
     let mut bytes = Vec::from_slice(alloc, HEADER)?;
     'packets: for packet in packets {
         bytes.extend_from_slice(&RECORD[..12])?;

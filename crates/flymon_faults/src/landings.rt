@@ -1,12 +1,10 @@
 //! Runs in flight that stop before their script is done: the packets in flight make their operations all the same.
-use crate::calls::additions;
-use crate::captures::{FIRST, SECOND, capture_of_packets};
 use crate::flights::Places;
-use crate::placement::THREE_GROUPS;
-use crate::runs::{
-    Ending, LIMITS, Limits, PROFILED, ROOM, expect_ending, profiled_files, run_failing,
-};
 use flymon_engine::Status;
+use flymon_trials::{
+    Ending, FIRST, LIMITS, Limits, PROFILED, ROOM, SECOND, THREE_GROUPS, additions,
+    capture_of_packets, expect_ending, profiled_files, run_failing,
+};
 use fm_io::MemFile;
 use reg_file::TraceFile;
 use std::alloc::{AllocError, Global};
@@ -110,7 +108,7 @@ fn lands_where_the_output_is_full(rt: HostRuntime) -> Result<(), Fail> {
         let ending = fly(alloc, files, Vec::new(alloc), &mut regs, limits)?;
         let sent = &OUT.as_bytes()[..room];
         let status = Status::OutputFault;
-        expect_ending(&rt, &room, &ending, status, sent, b"output fault\n");
+        expect_ending(&room, &ending, status, sent, b"output fault\n")?;
         // A command is carried out before its line is sent; the lines have 8, 10 and 10 bytes.
         let places = match room {
             0..8 => NONE,
@@ -223,7 +221,7 @@ fn lands_at_the_damage(rt: HostRuntime) -> Result<(), Fail> {
             Status::BadCapture
         };
         let message = message.as_bytes();
-        expect_ending(&rt, &kept, &ending, status, out.as_bytes(), message);
+        expect_ending(&kept, &ending, status, out.as_bytes(), message)?;
         expect_calls(&rt, alloc, kept as u64, &regs, places)?;
     }
     Ok(())

@@ -1,10 +1,9 @@
 //! Packets before different groups at once: in which order they make their operations, and what tasks count.
-use crate::calls::additions;
-use crate::captures::{FIRST, SECOND, Sent, capture_of_packets};
-use crate::changes::ONE_ARRAY;
-use crate::placement::THREE_GROUPS;
-use crate::runs::{Ending, LIMITS, PROFILED, expect_ending, profiled_files, run_over};
 use flymon_engine::Status;
+use flymon_trials::{
+    Ending, FIRST, LIMITS, ONE_ARRAY, PROFILED, SECOND, Sent, THREE_GROUPS, additions,
+    capture_of_packets, expect_ending, profiled_files, run_over,
+};
 use reg_file::TraceFile;
 use std::alloc::{AllocError, Global};
 use std::process::Abort;
@@ -152,7 +151,7 @@ packets 1\nread b rows 3 size 32 start 0\ncell 0 1 1\ncell 1 12 1\ncell 2 3 1\ne
 };
 
 /// Aborts unless the session writes and makes what it is to in each way.
-fn expect_schedule(rt: &impl Abort, alloc: Global, schedule: &Schedule) -> Result<(), AllocError> {
+fn expect_schedule(rt: &impl Abort, alloc: Global, schedule: &Schedule) -> Result<(), Fail> {
     'ways: for words in PROFILED {
         let capture = capture_of_packets(alloc, schedule.packets)?;
         let script = schedule.script.as_bytes();
@@ -161,7 +160,7 @@ fn expect_schedule(rt: &impl Abort, alloc: Global, schedule: &Schedule) -> Resul
         let ending = run_over(alloc, words, files, &mut regs, LIMITS)?;
         let case = (words, schedule.script);
         let out = schedule.out.as_bytes();
-        expect_ending(rt, &case, &ending, Status::Done, out, b"");
+        expect_ending(&case, &ending, Status::Done, out, b"")?;
         let flown = words.starts_with("flight");
         let places = if flown {
             schedule.flown

@@ -1,9 +1,8 @@
 //! As many tasks as there are partitions.
-use crate::captures::capture_of;
-use crate::runs::{
-    Limits, PROFILED, WORDS, expect_ending, profiled_files, run_over, session_files,
-};
 use flymon_engine::Status;
+use flymon_trials::{
+    Limits, PROFILED, WORDS, capture_of, expect_ending, profiled_files, run_over, session_files,
+};
 use itoa::Buffer;
 use reg_file::RamFile;
 use std::alloc::{AllocError, Global};
@@ -100,7 +99,7 @@ fn serves_a_task_for_each_partition(rt: HostRuntime) -> Result<(), Fail> {
     for words in WORDS {
         let files = session_files(alloc, script.as_bytes(), capture_of(alloc, &[])?)?;
         let ending = run_over(alloc, words, files, &mut RamFile::new(), GREAT)?;
-        expect_ending(&rt, &words, &ending, Status::Done, out.as_bytes(), b"");
+        expect_ending(&words, &ending, Status::Done, out.as_bytes(), b"")?;
     }
     Ok(())
 }
@@ -112,7 +111,7 @@ fn serves_a_task_for_each_register(rt: HostRuntime) -> Result<(), Fail> {
     for words in PROFILED {
         let files = profiled_files(alloc, FINE, script.as_bytes(), capture_of(alloc, &[])?)?;
         let ending = run_over(alloc, words, files, &mut RamFile::new(), GREAT)?;
-        expect_ending(&rt, &words, &ending, Status::Done, out.as_bytes(), b"");
+        expect_ending(&words, &ending, Status::Done, out.as_bytes(), b"")?;
     }
     Ok(())
 }

@@ -1,8 +1,9 @@
 //! Where the rows of tasks stand.
-use crate::captures::{FIRST, Sent, THIRD, capture_of_packets};
-use crate::changes::ONE_ARRAY;
-use crate::runs::{LIMITS, Session, WORDS, expect_done, expect_done_on, run_over, session_files};
 use flymon_engine::Status;
+use flymon_trials::{
+    FIRST, LIMITS, ONE_ARRAY, Sent, Session, THIRD, THREE_GROUPS, WORDS, capture_of_packets,
+    expect_done, expect_done_on, run_over, session_files,
+};
 use reg_file::{Call, TraceFile};
 use stateful_ops::Op;
 use std::test::Fail;
@@ -12,10 +13,6 @@ const TWO_ARRAYS: &str = "version = 1\ngroups = 1\ncmus = 2\nunits = 1\nlog_regi
 
 /// One group of three arrays of 32 registers, with two hash units.
 const THREE_ARRAYS: &str = "version = 1\ngroups = 1\ncmus = 3\nunits = 2\nlog_registers = 5\n";
-
-/// Three groups of one array of 32 registers and one hash unit each.
-pub(crate) const THREE_GROUPS: &str =
-    "version = 1\ngroups = 3\ncmus = 1\nunits = 1\nlog_registers = 5\n";
 
 /// Two groups of one array and one hash unit each, with arrays of 32 and 64 registers.
 const TWO_SHAPES: &str = "version = 2\nlog_blocks = 5\n\
@@ -153,7 +150,7 @@ added u\nrefused add v no unit need 1 have 0\nrefused resize t no room row 0\nre
 fn places_tasks_by_the_profile(rt: HostRuntime) -> Result<(), Fail> {
     let alloc = rt.alloc();
     for (profile, session) in SESSIONS {
-        expect_done_on(&rt, alloc, profile, session)?;
+        expect_done_on(alloc, profile, session)?;
     }
     Ok(())
 }
@@ -192,7 +189,7 @@ array 8 free 1024 largest 1024 live 0\nend\n",
 #[test]
 fn places_tasks_on_nine_arrays(rt: HostRuntime) -> Result<(), Fail> {
     for session in DEFAULT_SESSIONS {
-        expect_done(&rt, rt.alloc(), session)?;
+        expect_done(rt.alloc(), session)?;
     }
     Ok(())
 }

@@ -1,7 +1,8 @@
 //! Profiles at fault, and hash keys.
-use crate::captures::capture_of;
-use crate::runs::{LIMITS, Limits, PROFILED, ROOM, expect_ending, profiled_files, run_over};
 use flymon_engine::Status;
+use flymon_trials::{
+    LIMITS, Limits, PROFILED, ROOM, capture_of, expect_ending, profiled_files, run_over,
+};
 use reg_file::RamFile;
 use std::test::Fail;
 
@@ -66,13 +67,12 @@ fn names_the_fault_of_a_profile(rt: HostRuntime) -> Result<(), Fail> {
             let files = profiled_files(alloc, profile, b"rum\n", capture_of(alloc, &[])?)?;
             let ending = run_over(alloc, words, files, &mut RamFile::new(), LIMITS)?;
             expect_ending(
-                &rt,
                 &(words, profile),
                 &ending,
                 Status::BadProfile,
                 b"",
                 message.as_bytes(),
-            );
+            )?;
         }
     }
     assert_eq!(rt; Status::BadProfile.code(), 3);
@@ -99,13 +99,12 @@ fn judges_long_profiles(rt: HostRuntime) -> Result<(), Fail> {
             let files = profiled_files(alloc, &profile, b"run\n", capture_of(alloc, &[])?)?;
             let ending = run_over(alloc, words, files, &mut RamFile::new(), limits)?;
             expect_ending(
-                &rt,
                 &(words, blank),
                 &ending,
                 Status::BadProfile,
                 b"",
                 message.as_bytes(),
-            );
+            )?;
         }
     }
     Ok(())

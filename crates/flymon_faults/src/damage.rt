@@ -1,7 +1,6 @@
 //! Runs over damaged captures.
-use crate::captures::capture_of;
-use crate::runs::{LIMITS, WORDS, expect_ending, run_over, session_files};
 use flymon_engine::Status;
+use flymon_trials::{LIMITS, WORDS, capture_of, expect_ending, run_over, session_files};
 use reg_file::{Call, RamFile, TraceFile};
 use stateful_ops::Op;
 use std::test::Fail;
@@ -35,13 +34,12 @@ fn stops_at_the_damage(rt: HostRuntime) -> Result<(), Fail> {
             let files = session_files(alloc, ADD_AND_RUN, capture)?;
             let ending = run_over(alloc, words, files, &mut RamFile::new(), LIMITS)?;
             expect_ending(
-                &rt,
                 &(words, message),
                 &ending,
                 Status::BadCapture,
                 out.as_bytes(),
                 line.as_bytes(),
-            );
+            )?;
         }
     }
     assert_eq!(rt; Status::BadCapture.code(), 5);
@@ -111,13 +109,12 @@ fn writes_up_to_the_damage(rt: HostRuntime) -> Result<(), Fail> {
             let files = session_files(alloc, script.as_bytes(), capture)?;
             let ending = run_over(alloc, words, files, &mut RamFile::new(), LIMITS)?;
             expect_ending(
-                &rt,
                 &(words, script),
                 &ending,
                 status,
                 out.as_bytes(),
                 message.as_bytes(),
-            );
+            )?;
         }
     }
     Ok(())
@@ -168,13 +165,12 @@ fn tells_each_cut(rt: HostRuntime) -> Result<(), Fail> {
             let files = session_files(alloc, ADD_AND_RUN, capture)?;
             let ending = run_over(alloc, words, files, &mut RamFile::new(), LIMITS)?;
             expect_ending(
-                &rt,
                 &(words, kept),
                 &ending,
                 status,
                 out.as_bytes(),
                 message.as_bytes(),
-            );
+            )?;
         }
     }
     Ok(())
@@ -202,13 +198,12 @@ fn believes_no_length(rt: HostRuntime) -> Result<(), Fail> {
             let files = session_files(alloc, ADD_AND_RUN, capture)?;
             let ending = run_over(alloc, words, files, &mut RamFile::new(), LIMITS)?;
             expect_ending(
-                &rt,
                 &(words, length),
                 &ending,
                 Status::BadCapture,
                 b"added hot\n",
                 message.as_bytes(),
-            );
+            )?;
         }
     }
     Ok(())

@@ -1,10 +1,9 @@
 //! Scripts at fault, and the order in which the opening looks at words, files and texts.
-use crate::captures::capture_of;
-use crate::runs::{
-    Ending, LIMITS, Limits, ROOM, WAYS, WORDS, expect_ending, profiled_files, run_over,
+use flymon_engine::Status;
+use flymon_trials::{
+    Ending, LIMITS, Limits, ROOM, WAYS, WORDS, capture_of, expect_ending, profiled_files, run_over,
     session_files,
 };
-use flymon_engine::Status;
 use reg_file::RamFile;
 use std::alloc::{AllocError, Global};
 use std::test::Fail;
@@ -82,13 +81,12 @@ fn names_the_fault_of_a_script(rt: HostRuntime) -> Result<(), Fail> {
             let files = session_files(alloc, script.as_bytes(), capture_of(alloc, &[1])?)?;
             let ending = run_over(alloc, words, files, &mut RamFile::new(), LIMITS)?;
             expect_ending(
-                &rt,
                 &(words, script),
                 &ending,
                 Status::BadScript,
                 b"",
                 message.as_bytes(),
-            );
+            )?;
         }
     }
     assert_eq!(rt; Status::BadScript.code(), 4);
@@ -166,7 +164,7 @@ fn opens_in_order(rt: HostRuntime) -> Result<(), Fail> {
     let alloc = rt.alloc();
     for (words, script) in WRONG {
         let ending = run_shut(alloc, words, script)?;
-        expect_ending(&rt, &words, &ending, Status::Usage, b"", USAGE.as_bytes());
+        expect_ending(&words, &ending, Status::Usage, b"", USAGE.as_bytes())?;
     }
     for way in WAYS {
         for (names, script, status, message) in ORDERS {
@@ -174,7 +172,7 @@ fn opens_in_order(rt: HostRuntime) -> Result<(), Fail> {
             words.push_str(names)?;
             let ending = run_shut(alloc, &words, script)?;
             let case = (way, names);
-            expect_ending(&rt, &case, &ending, status, b"", message.as_bytes());
+            expect_ending(&case, &ending, status, b"", message.as_bytes())?;
         }
     }
     Ok(())
@@ -204,13 +202,12 @@ fn judges_long_scripts(rt: HostRuntime) -> Result<(), Fail> {
             let files = session_files(alloc, &script, capture_of(alloc, &[])?)?;
             let ending = run_over(alloc, words, files, &mut RamFile::new(), limits)?;
             expect_ending(
-                &rt,
                 &(words, blank),
                 &ending,
                 status,
                 out.as_bytes(),
                 message.as_bytes(),
-            );
+            )?;
         }
     }
     Ok(())
