@@ -1,6 +1,7 @@
 """Error over memory, kinds side by side, by matplotlib."""
 from __future__ import annotations
 
+import itertools
 import math
 from typing import Dict, List, Sequence, Tuple
 
@@ -20,6 +21,16 @@ def curves(rows: Sequence[Measured], kinds: Tuple[str, ...]) -> Dict[str, List[T
             plural = "row" if row.task.rows == 1 else "rows"
             label = f"{row.task.name}: {row.task.kind}, {row.task.rows} {plural}"
             found.setdefault(label, []).append((row.task.rows * row.task.size * 4, row.error))
+    return {label: sorted(points) for label, points in found.items()}
+
+
+def corrected_curves(rows: Sequence[Measured]) -> Dict[str, List[Tuple[int, float]]]:
+    """Of HyperLogLog also the error behind the usual correction for few flows."""
+    found: Dict[str, List[Tuple[int, float]]] = {}
+    for row in rows:
+        if row.corrected is not None and row.flows:
+            error = abs(row.corrected - row.flows) / row.flows
+            found.setdefault(f"{row.task.name}, corrected for few", []).append((row.task.size * 4, error))
     return {label: sorted(points) for label, points in found.items()}
 
 
@@ -64,11 +75,18 @@ def draw(name: str, rows: Sequence[Measured], title: str) -> None:
     matplotlib.rcParams["svg.hashsalt"] = "flymon"  # the same picture has the same bytes
     from matplotlib import pyplot
 
-    panels = [(curves(rows, kinds), title_, measure) for kinds, title_, measure in PANELS]
-    panels = [panel for panel in panels if panel[0]]
-    figure, axes = pyplot.subplots(1, max(1, len(panels)), figsize=(4.6 * max(1, len(panels)), 4.2), squeeze=False)
-    for place, panel in zip(axes[0], panels):
-        draw_panel(place, *panel)
-    figure.suptitle(title)
+    panels = []
+    for kinds, heading, measure in PANELS:
+        found = {**curves(rows, kinds), **(corrected_curves(rows) if "hll" in kinds else {})}
+        panels += [(found, heading, measure)] if found else []
+    columns = 2 if len(panels) == 4 else max(1, min(3, len(panels)))
+    lines = max(1, -(-len(panels) // columns))
+    figure, axes = pyplot.subplots(lines, columns, figsize=(4.6 * columns, 3.8 * lines), squeeze=False)
+    for place, panel in itertools.zip_longest(axes.flat, panels):
+        if panel:
+            draw_panel(place, *panel)
+        else:
+            place.remove()
+    figure.suptitle(title, fontsize="medium")
     figure.tight_layout()
     figure.savefig(name, metadata={"Date": None} if name.endswith(".svg") else None, dpi=120)

@@ -36,7 +36,7 @@ class Measured:
     synthetic: Optional[int] = None
     false_positives: Optional[int] = None
     estimate: Optional[int] = None
-    linear: Optional[int] = None
+    corrected: Optional[int] = None
     wmre: Optional[float] = None
     broken: List[str] = field(default_factory=list)
 
@@ -199,6 +199,11 @@ def alpha(size: int) -> Tuple[int, int]:
     return fixed.get(size, (7213 * size, 10 * (1000 * size + 1079)))
 
 
+def corrected(size: int, zeros: int, raw: int) -> int:
+    """The usual correction for few flows, which flymon leaves to the reader: counting by the registers that are zero."""
+    return round(size * math.log(size / zeros)) if zeros and raw <= 2.5 * size else raw
+
+
 def measure_hll(counted: Counted, answers: Sequence[Block], hashing: Hash) -> Measured:
     """The three numbers of `card`, each beside that of the textbook's registers."""
     task, distinct = counted.task, len(counted.flows)
@@ -212,8 +217,7 @@ def measure_hll(counted: Counted, answers: Sequence[Block], hashing: Hash) -> Me
     if (card.zeros, card.z, card.raw) != (zeros, z, raw):
         measured.broken.append(f"{task.name} all flows: zeros {card.zeros} z {card.z} raw {card.raw}, where its registers"
                                f" come to zeros {zeros} z {z} raw {raw}")
-    if zeros:
-        measured.linear = round(task.size * math.log(task.size / zeros))
+    measured.corrected = corrected(task.size, zeros, card.raw)
     if distinct:
         measured.relative = abs(measured.estimate - distinct) / distinct
         measured.absolute = abs(measured.estimate - distinct)

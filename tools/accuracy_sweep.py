@@ -3,7 +3,7 @@ from __future__ import annotations
 
 import os
 from dataclasses import replace
-from typing import List, Optional, Sequence
+from typing import Dict, List, Sequence, Tuple
 
 from accuracy_exact import Counted
 from accuracy_flymon import Program, ask
@@ -29,32 +29,34 @@ def stem_of(task: Task, end: int) -> str:
     return f"{before}{add_of(task)}packets {end - task.start}\n"
 
 
-def measure_one(program: Program, counted: Counted, capture: str, end: int, hashing: Hash, absent: int) -> Optional[Measured]:
-    """A task alone; nothing where the switch refuses the size, which is told."""
-    judged = program.run(add_of(counted.task).encode("ascii"), capture)[0]
-    if isinstance(judged, Refused):
-        print(f"size {counted.task.size}: refused add {judged.task} {judged.reason}")
-        return None
-    asked = questions_for(counted, absent)
-    answers = ask(program, stem_of(counted.task, end), asked.lines(), capture)
-    return measure(counted, asked, answers, hashing)
+def switch_for(program: Program, size: int, hash_key: bytes) -> Program:
+    """The program with its profile, or where that is `-` with one made for the size."""
+    if program.profile != "-":
+        return program
+    name = os.path.join(program.folder, "profile")
+    with open(name, "w", encoding="ascii") as file:
+        file.write(profile_for(size, hash_key))
+    return program._replace(profile=name)
 
 
 def sweep(program: Program, hash_key: bytes, counts: Sequence[Counted], sizes: Sequence[int], capture: str, end: int,
           absent: int) -> List[Measured]:
-    """Every task with every size, on the profile of the program, or where that is `-` on one made for the size."""
+    """Every task with every size; sizes that the switch refuses are told and left out."""
     rows: List[Measured] = []
+    refused: Dict[Tuple[int, str], List[str]] = {}
     hashing = Hash(hash_key)
     for counted in counts:
-        whole = counted.task
+        asked, whole = questions_for(counted, absent), counted.task
         for size in sizes:
             counted.task = replace(whole, size=size)
-            switch = program
-            if program.profile == "-":
-                switch = program._replace(profile=os.path.join(program.folder, "profile"))
-                with open(switch.profile, "w", encoding="ascii") as file:
-                    file.write(profile_for(size, hash_key))
-            measured = measure_one(switch, counted, capture, end, hashing, absent)
-            rows += [measured] if measured else []
+            switch = switch_for(program, size, hash_key)
+            judged = switch.run(add_of(counted.task).encode("ascii"), capture)[0]
+            if isinstance(judged, Refused):
+                refused.setdefault((size, judged.reason), []).append(whole.name)
+                continue
+            answers = ask(switch, stem_of(counted.task, end), asked.lines(), capture)
+            rows.append(measure(counted, asked, answers, hashing))
         counted.task = whole
+    for (size, reason), names in sorted(refused.items()):
+        print(f"size {size} is refused with `{reason}` for {', '.join(names)}")
     return rows

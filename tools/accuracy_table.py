@@ -8,7 +8,7 @@ from accuracy_measure import FLAGS, Measured
 
 COLUMNS = ("run", "task", "kind", "rows", "memory", "registers", "key", "attribute", "filter", "start", "packets", "flows",
            "average_relative_error", "average_absolute_error", "exact_share", "wrong_bits", "absent_of_capture",
-           "absent_made_up", "false_positives", "false_positive_rate", "estimate", "linear_counting", "relative_error", "wmre")
+           "absent_made_up", "false_positives", "false_positive_rate", "estimate", "corrected_estimate", "relative_error", "wmre")
 
 
 def shown(number: Optional[float], scale: int = 1, end: str = "") -> str:
@@ -23,8 +23,7 @@ def remark(measured: Measured) -> str:
         rate = shown(measured.false_positive_rate, 100, " %")
         return f"{measured.false_positives} of {measured.outside + measured.synthetic} absent say yes: {rate} ({asked})"
     if kind == "hll":
-        corrected = "" if measured.linear is None else f", {measured.linear} by linear counting"
-        return f"estimate {measured.estimate} of {measured.flows}{corrected}"
+        return f"estimate {measured.estimate} of {measured.flows}, {measured.corrected} with the correction for few"
     if kind == "mrac":
         return f"WMRE of the flow sizes {shown(measured.wmre)}"
     return f"{measured.wrong_bits} wrong bits" if kind in FLAGS else ""
@@ -53,7 +52,7 @@ def csv_row(run: str, measured: Measured) -> List[object]:
     return [run, task.name, task.kind, task.rows, task.size, task.rows * task.size, key, attribute, chosen, task.start,
             measured.packets, measured.flows, None if is_hll else measured.relative, None if is_hll else measured.absolute,
             measured.exact_share, measured.wrong_bits, measured.outside, measured.synthetic, measured.false_positives,
-            measured.false_positive_rate, measured.estimate, measured.linear, measured.relative if is_hll else None,
+            measured.false_positive_rate, measured.estimate, measured.corrected, measured.relative if is_hll else None,
             measured.wmre]
 
 
