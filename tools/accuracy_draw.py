@@ -48,19 +48,29 @@ def ticks_of(sizes: Sequence[int]) -> List[int]:
     return [1 << power for power in range(low, high + 1, step)]
 
 
+def set_error_axis(axes: object, errors: Sequence[float]) -> None:
+    """Logarithmic; where some error is 0, down to the decade of the least other one, with 0 below it."""
+    above = [error for error in errors if error > 0]
+    if not above:
+        return
+    if len(above) == len(errors):
+        axes.set_yscale("log")
+        return
+    least = 10.0 ** math.floor(math.log10(min(above)))
+    decades = math.log10(max(above) / least)
+    axes.set_yscale("symlog", linthresh=least, linscale=max(0.5, decades / 9))
+    axes.set_ylim(bottom=-least / 4, top=max(above) * 2)
+
+
 def draw_panel(axes: object, found: Dict[str, List[Tuple[int, float]]], title: str, measure: str) -> None:
     sizes = [size for points in found.values() for size, _ in points]
-    errors = [error for points in found.values() for _, error in points if error > 0]
     for mark, (label, points) in zip(MARKS * (1 + len(found) // len(MARKS)), found.items()):
         axes.plot([size for size, _ in points], [error for _, error in points], marker=mark, label=label)
     axes.set_xscale("log", base=2)
     ticks = ticks_of(sizes)
     axes.set_xticks(ticks, [size_text(tick) for tick in ticks], rotation=30, ha="right")
     axes.minorticks_off()
-    if errors:  # logarithmic down to the least error, and 0 below it
-        least = 10.0 ** math.floor(math.log10(min(errors)))
-        axes.set_yscale("symlog", linthresh=least, linscale=0.5)
-        axes.set_ylim(bottom=-least / 5)
+    set_error_axis(axes, [error for points in found.values() for _, error in points])
     axes.set_title(title)
     axes.set_xlabel("memory of all rows")
     axes.set_ylabel(measure)
@@ -69,7 +79,7 @@ def draw_panel(axes: object, found: Dict[str, List[Tuple[int, float]]], title: s
 
 
 def draw(name: str, rows: Sequence[Measured], title: str) -> None:
-    """Writes the picture; an ImportError where there is no matplotlib."""
+    """Writes the picture."""
     import matplotlib
     matplotlib.use("Agg")
     matplotlib.rcParams["svg.hashsalt"] = "flymon"  # the same picture has the same bytes
