@@ -7,7 +7,7 @@ other here, as those rules say.
 from __future__ import annotations
 
 import functools
-from typing import BinaryIO, Dict, Iterator, NamedTuple, Optional, Sequence, Tuple
+from typing import BinaryIO, Dict, Iterator, List, NamedTuple, Optional, Sequence, Tuple
 
 import dpkt
 
@@ -152,17 +152,18 @@ def joined(kind: str, before: Optional[int], weight: int) -> int:
 
 
 class Counted:
-    """Exact answers of one task by flow, from its start to the end of the packets that the script takes."""
+    """Exact answers of one task by flow, over the packets from its start to an end."""
 
-    def __init__(self, task: Task) -> None:
-        self.task = task
+    def __init__(self, task: Task, end: int) -> None:
+        self.task, self.end = task, end
         self.flows: Dict[Value, int] = {}
         self.outside: Dict[Value, None] = {}
         self.packets = 0
 
-    def take(self, packet: Packet, is_in_window: bool) -> None:
+    def take(self, packet: Packet, place: int) -> None:
+        """The packet that has so many before it in the capture."""
         value = self.task.value_of(packet.fields)
-        if is_in_window and self.task.matches(packet.fields):
+        if self.task.start <= place < self.end and self.task.matches(packet.fields):
             self.packets += 1
             weight = weight_of(self.task.attribute, packet)
             self.flows[value] = joined(self.task.kind, self.flows.get(value), weight)
@@ -174,15 +175,15 @@ class Counted:
         return [value for value in self.outside if value not in self.flows]
 
 
-def count(capture: str, tasks: Sequence[Task], end: int) -> Tuple[Sequence[Counted], int]:
-    """Exact answers of tasks over the first `end` packets, in one pass over the capture, and how many packets it has."""
-    counts = [Counted(task) for task in tasks]
+def count(capture: str, windows: Sequence[Tuple[Task, int]]) -> Tuple[List[Counted], int]:
+    """Exact answers of tasks, each up to so many packets, in one pass over the capture, and how many packets it has."""
+    counts = [Counted(task, end) for task, end in windows]
     packets = 0
     try:
         with open(capture, "rb") as file:
             for packet in packets_of(file):
                 for counted in counts:
-                    counted.take(packet, counted.task.start <= packets < end)
+                    counted.take(packet, packets)
                 packets += 1
     except Damage:
         pass  # the script asks for no packet there, or flymon had told of it

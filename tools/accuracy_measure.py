@@ -149,6 +149,13 @@ def fault_of(book: Textbook, value: Value, exact: int, answer: int) -> Optional[
     return f"answer {answer} is not {wanted}, which its counters hold" if answer != wanted else None
 
 
+def bloom_fault(book: Textbook, value: Value, came: bool, is_yes: bool) -> Optional[str]:
+    if came and not is_yes:
+        return "answer no, though it came"
+    right = bool(book.answer(value))
+    return None if is_yes == right else f"the answer is not {'yes' if right else 'no'}, which its bits say"
+
+
 def tell(measured: Measured, value: Value, fault: Optional[str]) -> None:
     if fault:
         task = measured.task
@@ -184,11 +191,8 @@ def measure_bloom(counted: Counted, asked: Questions, answers: Sequence[Block], 
     book = Textbook(hashing, task, flows)
     yes = [block.answer == "yes" for block in answers]
     came = len(asked.present)
-    for value, is_yes in zip(asked.present, yes):
-        tell(measured, value, None if is_yes else "answer no, though it came")
-    for value, is_yes in zip(asked.outside + asked.synthetic, yes[came:]):
-        right = "yes" if book.answer(value) else "no"
-        tell(measured, value, None if is_yes == (right == "yes") else f"the answer is not {right}, which its bits say")
+    for value, is_yes in zip(asked.present + asked.outside + asked.synthetic, yes):
+        tell(measured, value, bloom_fault(book, value, value in flows, is_yes))
     measured.false_positives = sum(yes[came:])
     measured.exact_share = sum(yes[:came]) / came if came else None
     return measured

@@ -5,7 +5,7 @@ import ipaddress
 from dataclasses import dataclass, field, replace
 from typing import Dict, List, NamedTuple, Sequence, Tuple
 
-from flymon_output import Done, Fault, Packets
+from flymon_output import Card, Dist, Done, Fault, Packets, Query
 
 # Name, bits and first byte in the key vector of each field, in order.
 FIELDS = (("src_ip", 32, 0), ("dst_ip", 32, 4), ("src_port", 16, 8), ("dst_port", 16, 10), ("proto", 8, 12), ("tos", 8, 13),
@@ -107,13 +107,22 @@ def added(words: Sequence[str], start: int) -> Task:
     return Task(name, kind, int(rows), read_items(key), attribute, read_items(chosen), int(size), start, tuple(words))
 
 
+class Own(NamedTuple):
+    """An answered question of the script: the task as it was then, and how many packets were taken before."""
+    task: Task
+    end: int
+    words: Tuple[str, ...]
+    block: Block
+
+
 class Ended(NamedTuple):
-    """What stands behind the last command: live tasks, packets taken, the commands that matter for both, and for each that
-    takes packets how many it asked for and got."""
+    """What stands behind the last command: live tasks, packets taken, the commands that matter for both, for each that takes
+    packets how many it asked for and got, and the answered questions."""
     tasks: List[Task]
     packets: int
     stem: str
     taken: List[Tuple[int, int]]
+    owns: List[Own]
 
 
 def change(tasks: Dict[str, Task], words: Sequence[str], start: int) -> None:
@@ -130,7 +139,7 @@ def change(tasks: Dict[str, Task], words: Sequence[str], start: int) -> None:
 def follow(script: bytes, blocks: Sequence[Block]) -> Ended:
     """Goes through a script beside the blocks of its output, one a command."""
     tasks: Dict[str, Task] = {}
-    packets, stem, taken = 0, [], []
+    packets, stem, taken, owns = 0, [], [], []
     commands = commands_of(script)
     if len(blocks) != len(commands):
         raise Fault(blocks[-1].line if blocks else 1, f"{len(commands)} commands have {len(blocks)} answers")
@@ -142,4 +151,6 @@ def follow(script: bytes, blocks: Sequence[Block]) -> Ended:
             packets += block.count
         elif isinstance(block, Done):
             change(tasks, words, packets)
-    return Ended(list(tasks.values()), packets, "".join(line + "\n" for line in stem), taken)
+        elif isinstance(block, (Query, Card, Dist)):
+            owns.append(Own(tasks[block.task], packets, words, block))
+    return Ended(list(tasks.values()), packets, "".join(line + "\n" for line in stem), taken, owns)
