@@ -1,12 +1,12 @@
 -- IPv4 addresses in their canonical spelling are what is printed of them.
-use Rattle.std.proofs.Common.{◌≡◌, ◌≢◌, ℕ, ◌+◌, ◌*◌, ◌/◌, ◌%◌, ◌^◌, ◌<◌, ◌==◌, true, false, not, List, [], ◌∷◌, ◌++◌, map, Option, Some, refl, ap, sym, ◌∙◌, arith, ⊎_elim, eq-eqb}
+use Rattle.std.proofs.Common.{◌≡◌, ℕ, ◌+◌, ◌*◌, ◌/◌, ◌%◌, ◌^◌, ◌<◌, true, not, List, [], ◌∷◌, ◌++◌, map, Option, Some, refl, ap, sym, ◌∙◌, arith}
 use Rattle.std.specs.Fmt.{decimal}
 use Rattle.std.specs.Int.{bytes_high_first}
 use Rattle.std.specs.List.{join_with_byte, list_all}
-use Rattle.std.proofs.lemmas.Bool.{and_parts, cases_eq, ne_eqb}
+use Rattle.std.proofs.lemmas.Bool.{and_parts}
 use Rattle.std.proofs.lemmas.Bool.Decides.{nat_tests}
-use Rattle.texts.specs.Cuts.{front, back, parts}
-use Rattle.texts.proofs.CutLemmas.{parts_behind, parts_first, split_last, split_more}
+use Rattle.texts.specs.Cuts.{front, back, parts, tail_of}
+use Rattle.texts.proofs.CutLemmas.{joined, parts_behind, parts_first, split_last, split_more}
 use Rattle.key_mask.specs.Numbers.{◌>>=◌, address_in, is_dot, number_in}
 use Rattle.key_mask.specs.Spellings.{address_text, has_no_leading_zero}
 use Rattle.key_mask.proofs.Ipv6GrammarLemmas.{some_bind}
@@ -14,16 +14,7 @@ use Rattle.key_mask.proofs.NumberLemmas.{decimal_lead, decimal_pass, digits_pass
 use Rattle.key_mask.proofs.VectorLemmas.{AreBytes, bytes_back}
 
 dot_joined : (text rest : List ℕ) → back is_dot text ≡ Some rest → text ≡ front is_dot text ++ 46 ∷ rest
-dot_joined [] rest h = absurd (let wrong : ⊥ = cc in wrong)
-dot_joined (x ∷ xs) rest h =
-    ⊎_elim
-    (λ (e : x ≡ 46).
-    let t : (x == 46) ≡ true = eq-eqb x 46 e in
-    let here : Some xs ≡ Some rest = rw t at h in
-    let same : xs ≡ rest = cc here in
-    rw t (λ i. e i ∷ same i))
-    (λ (ne : x ≢ 46). let t : (x == 46) ≡ false = ne_eqb x 46 ne in rw t (ap (λ ys. x ∷ ys) (dot_joined xs rest (rw t at h))))
-    (cases_eq x 46)
+dot_joined text rest h = joined 46 text ∙ ap (λ behind. front is_dot text ++ tail_of 46 behind) h
 
 -- what the four numbers of an address are
 record IsAddress (text : List ℕ) (n : ℕ) : Type 0 where

@@ -1,5 +1,6 @@
 -- Items with commas between: how they are read one by one.
-use Rattle.std.proofs.Common.{◌≡◌, ◌≢◌, ℕ, suc, ◌+◌, ◌==◌, true, false, List, [], ◌∷◌, length, slice_index, Option, None, Some, ok_or, Result, Ok, Err, refl, arith, ⊎_elim, eq-eqb}
+use Rattle.std.proofs.Common.{◌≡◌, ◌≢◌, ℕ, suc, ◌+◌, ◌==◌, true, false, List, [], ◌∷◌, length, map, drop, get_or, slice_index, Option, None, Some, ok_or, Result, Ok, Err, refl, ap, subst, arith, ⊎_elim, eq-eqb}
+use Rattle.std.specs.List.{range_with_len}
 use Rattle.std.proofs.lemmas.Bool.{cases_eq, ne_eqb}
 use Rattle.texts.specs.Cuts.{front, back, parts}
 use Rattle.texts.proofs.CutLemmas.{parts_first, parts_behind}
@@ -30,25 +31,25 @@ pub record IsStep {A : Type 0} (add : A → List ℕ → Result A FieldKind) (va
   pub present : slice_index lengths (field_number field) ≢ 0
       → add now (item_text values field (slice_index lengths (field_number field))) ≡ Ok next
 
-abbrev pub AreSteps : {A : Type 0} → (A → List ℕ → Result A FieldKind) → Option (List ℕ) → List ℕ → (ℕ → A) → ℕ → List Field → Type 0
-AreSteps add values lengths state k [] = Unit {0}
-AreSteps add values lengths state k (field ∷ fields) =
-    IsStep add values lengths (state k) (state (suc k)) field × AreSteps add values lengths state (suc k) fields
-
-pub items_again : {A : Type 0} (add : A → List ℕ → Result A FieldKind) (values : Option (List ℕ)) (lengths : List ℕ) (state : ℕ → A) (k : ℕ) (fields : List Field)
-    → AreSteps add values lengths state k fields → (place : ℕ)
+pub items_again : {A : Type 0} (add : A → List ℕ → Result A FieldKind) (values : Option (List ℕ)) (lengths : List ℕ) (state : ℕ → A)
+    → ((field : Field) → IsStep add values lengths (state (field_number field)) (state (suc (field_number field))) field)
+    → (k : ℕ) (fields : List Field) → map field_number fields ≡ range_with_len k (length fields) → (place : ℕ)
     → with_items add place (state k) (item_texts values lengths fields) ≡ Ok (state (k + length fields))
-items_again add values lengths state k [] steps place = let e : k + 0 ≡ k = omega arith in rw e refl
-items_again add values lengths state k (field ∷ fields) steps place =
+items_again add values lengths state steps k [] numbered place = let e : k + 0 ≡ k = omega arith in rw e refl
+items_again add values lengths state steps k (field ∷ fields) numbered place =
     let n : ℕ = slice_index lengths (field_number field) in
+    let one : k + 1 ≡ suc k = omega arith in
     let count : k + length (field ∷ fields) ≡ suc k + length fields = omega arith in
+    let step : IsStep add values lengths (state k) (state (suc k)) field =
+    subst (λ m. IsStep add values lengths (state m) (state (suc m)) field) (ap (λ ns. get_or ns 0 0) numbered) (steps field) in
+    let later : (place : ℕ) → with_items add place (state (suc k)) (item_texts values lengths fields) ≡ Ok (state (suc k + length fields)) =
+    items_again add values lengths state steps (suc k) fields
+    (subst (λ m. map field_number fields ≡ range_with_len m (length fields)) one (ap (drop 1) numbered)) in
     ⊎_elim
-    (λ (e : n ≡ 0).
-    let t : (n == 0) ≡ true = eq-eqb n 0 e in
-    rw (t, count, ← steps.0.absent e) (items_again add values lengths state (suc k) fields steps.1 place))
+    (λ (e : n ≡ 0). let t : (n == 0) ≡ true = eq-eqb n 0 e in rw (t, count, ← step.absent e) (later place))
     (λ (ne : n ≢ 0).
     let t : (n == 0) ≡ false = ne_eqb n 0 ne in
-    rw (t, steps.0.present ne, count) (items_again add values lengths state (suc k) fields steps.1 (place + (length (item_text values field n) + 1))))
+    rw (t, step.present ne, count) (later (place + (length (item_text values field n) + 1))))
     (cases_eq n 0)
 
 -- ---- steps that gave a value

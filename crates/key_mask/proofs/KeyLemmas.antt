@@ -8,7 +8,6 @@ use Rattle.std.proofs.lemmas.List.{get_or-set_other, get_or-set_same, length-set
 use Rattle.std.proofs.lemmas.List.Splits.{join_with_byte-slice_split}
 use Rattle.texts.specs.Cuts.{front, back, parts}
 use Rattle.key_mask.specs.declared.fields.Field.{Field}
-use Rattle.key_mask.specs.declared.fields.Field.TheVariants.{SrcIp, DstIp, SrcPort, DstPort, Proto, Tos, EtherType, SrcIp6, DstIp6}
 use Rattle.key_mask.specs.declared.items.FieldKind.{FieldKind}
 use Rattle.key_mask.specs.declared.items.FieldKind.TheVariants.{UnknownField, BadPrefix}
 use Rattle.key_mask.specs.declared.items.FieldFault.{FieldFault}
@@ -18,10 +17,10 @@ use Rattle.key_mask.specs.Items.{◌>>=◌, field_named, fresh_field, is_slash, 
 use Rattle.key_mask.specs.Keys.{is_canonical_key, is_key_item, key_in, key_text, with_item}
 use Rattle.key_mask.specs.Laws.{KeyAgain, OnlyKey}
 use Rattle.key_mask.proofs.OrderLemmas.{IsAdded, IsSpelled, item_at, items_at, named_is, only_items, printed_in_order}
-use Rattle.key_mask.proofs.ItemLemmas.{AreSteps, IsStep, fresh_bind, items_again, ok_bind, place_bind}
+use Rattle.key_mask.proofs.ItemLemmas.{IsStep, fresh_bind, items_again, ok_bind, place_bind}
 use Rattle.texts.proofs.CutLemmas.{parts_first, parts_behind}
 use Rattle.key_mask.proofs.MaskLemmas.{none_stands}
-use Rattle.key_mask.proofs.PartLemmas.{number_below}
+use Rattle.key_mask.proofs.FieldLemmas.{number_below}
 use Rattle.key_mask.proofs.PrefixLemmas.{length_within, each_row, prefix_again, prefix_canonical, prefix_is, prefix_pass, prefix_some}
 use Rattle.key_mask.proofs.PrintLemmas.{cut_slash, item_joined, is_plain, items_plain, name_found, name_plain, name_slashless, parts_joined}
 
@@ -68,50 +67,23 @@ first_none [] (suc count) e = absurd (omega arith)
 first_none (n ∷ lengths) zero e = absurd (omega arith)
 first_none (n ∷ lengths) (suc count) e = ap (λ ns. 0 ∷ ns) (first_none lengths count (omega arith))
 
-key_step : (lengths : List ℕ) → AreLengths lengths → (field : Field) (k : ℕ) → field_number field ≡ k → k < 9
-    → IsStep with_item None lengths (first_lengths lengths k) (first_lengths lengths (suc k)) field
-key_step lengths known field k number h = record {
-  absent = λ none. kept_next lengths k (ap (slice_index lengths) (sym number) ∙ none);
-  present = λ some.
-      item_again (first_lengths lengths k) field (slice_index lengths (field_number field)) (ap (slice_index (first_lengths lengths k)) number ∙ free_next lengths k) (known.allowed field some)
-      ∙ (λ i. Ok (slice_set (first_lengths lengths k) (number i) (slice_index lengths (number i))))
-      ∙ ap (λ found. Ok found) (filled_next lengths k (omega (arith, known.whole)));
-}
-
-key_steps : (lengths : List ℕ) → AreLengths lengths → AreSteps with_item None lengths (first_lengths lengths) 0 fields
-key_steps lengths known =
-    let step = key_step lengths known in (
-      step SrcIp 0 refl (omega arith),
-      (
-        step DstIp 1 refl (omega arith),
-        (
-          step SrcPort 2 refl (omega arith),
-          (
-            step DstPort 3 refl (omega arith),
-            (
-              step Proto 4 refl (omega arith),
-              (
-                step Tos 5 refl (omega arith),
-                (
-                  step EtherType 6 refl (omega arith),
-                  (
-                    step SrcIp6 7 refl (omega arith),
-                    (step DstIp6 8 refl (omega arith), tt),
-                  ),
-                ),
-              ),
-            ),
-          ),
-        ),
-      ),
-    )
+key_step : (lengths : List ℕ) → AreLengths lengths → (field : Field)
+    → IsStep with_item None lengths (first_lengths lengths (field_number field)) (first_lengths lengths (suc (field_number field))) field
+key_step lengths known field =
+    let k : ℕ = field_number field in
+    record {
+      absent = λ none. kept_next lengths k none;
+      present = λ some.
+          item_again (first_lengths lengths k) field (slice_index lengths k) (free_next lengths k) (known.allowed field some)
+          ∙ ap (λ found. Ok found) (filled_next lengths k (omega (arith, number_below field, known.whole)));
+    }
 
 reads_all : (lengths : List ℕ) → AreLengths lengths → with_items with_item 0 no_lengths (item_texts None lengths fields) ≡ Ok lengths
 reads_all lengths known =
     let none : first_lengths lengths 0 ≡ no_lengths = first_none lengths 9 known.whole in
     let all : first_lengths lengths 9 ≡ lengths = first_all lengths 9 (omega (arith, known.whole)) in
     subst (λ found. with_items with_item 0 found (item_texts None lengths fields) ≡ Ok lengths) none
-    (items_again with_item None lengths (first_lengths lengths) 0 fields (key_steps lengths known) 0 ∙ ap (λ found. Ok found) all)
+    (items_again with_item None lengths (first_lengths lengths) (key_step lengths known) 0 fields refl 0 ∙ ap (λ found. Ok found) all)
 
 -- ---- the commas part the items
 

@@ -1,6 +1,7 @@
 pub mod AddressLemmas
 pub mod BytesLemmas
 pub mod EightLemmas
+pub mod FieldLemmas
 pub mod GroupLemmas
 pub mod HexLemmas
 pub mod Ipv6AgainLemmas

@@ -9,10 +9,10 @@ use Rattle.std.proofs.lemmas.List.Sums.{sum_by_more, sum_by_more_le}
 use Rattle.std.proofs.lemmas.Slice.{take-put_mid}
 use borrow.Rule.Slice.PartMut.{put_mid}
 use Rattle.key_mask.specs.declared.fields.Field.{Field}
-use Rattle.key_mask.specs.declared.fields.Field.TheVariants.{SrcIp, DstIp, SrcPort, DstPort, Proto, Tos, EtherType, SrcIp6, DstIp6}
+use Rattle.key_mask.specs.declared.fields.Field.TheVariants.{SrcIp}
 use Rattle.key_mask.specs.declared.fields.TheConstants.{KEY_BYTES}
 use Rattle.key_mask.specs.Fields.{field_number, size_of, is_length}
-use Rattle.key_mask.proofs.PartLemmas.{number_below, same_field}
+use Rattle.key_mask.proofs.FieldLemmas.{each_equal, number_below, same_field}
 use Rattle.key_mask.specs.Masks.{mask_bytes_of, field_bytes, prefix_byte, prefix_bytes, no_lengths, AreLengths}
 
 pub length-mask_bytes_of : (lengths : List ℕ) → length (mask_bytes_of lengths) ≡ KEY_BYTES
@@ -61,15 +61,7 @@ written_all fields lengths bytes start i written past =
 -- ---- the lengths of a mask
 
 pub none_stands : (field : Field) → slice_index no_lengths (field_number field) ≡ 0
-none_stands SrcIp = refl
-none_stands DstIp = refl
-none_stands SrcPort = refl
-none_stands DstPort = refl
-none_stands Proto = refl
-none_stands Tos = refl
-none_stands EtherType = refl
-none_stands SrcIp6 = refl
-none_stands DstIp6 = refl
+none_stands = each_equal (λ field. slice_index no_lengths (field_number field)) (λ field. 0) refl
 
 pub none_allowed : AreLengths no_lengths
 none_allowed = record { whole = refl; allowed = λ field some. absurd (some (none_stands field)) }

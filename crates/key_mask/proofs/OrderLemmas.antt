@@ -12,7 +12,7 @@ use Rattle.key_mask.specs.declared.items.FieldFault.{FieldFault}
 use Rattle.key_mask.specs.Fields.{fields, field_number, name_of}
 use Rattle.key_mask.specs.Items.{are_in_order, field_named, item_text, item_texts, with_items}
 use Rattle.key_mask.proofs.ItemLemmas.{place_bind}
-use Rattle.key_mask.proofs.PartLemmas.{number_below, same_field}
+use Rattle.key_mask.proofs.FieldLemmas.{number_below, same_field}
 
 both : (a b : Bool) → (a && b) ≡ true → (a ≡ true) × (b ≡ true)
 both true b e = (refl, e)

@@ -3,46 +3,38 @@ use Rattle.std.proofs.Common.{◌≡◌, ◌≢◌, ℕ, zero, suc, ◌+◌, ◌
 use Rattle.std.specs.List.{list_all}
 use Rattle.std.proofs.lemmas.Bool.{cases_eq}
 use Rattle.std.proofs.lemmas.Bool.Decides.{nat_tests}
+use Rattle.std.proofs.lemmas.Grind.{same_number_lists}
+use Rattle.std.proofs.lemmas.List.{get_or-map}
 use Rattle.std.proofs.lemmas.List.Splits.{join_with_byte-slice_split}
-use Rattle.texts.specs.Cuts.{front, back, parts}
+use Rattle.texts.specs.Cuts.{front, back, parts, tail_of}
 use Rattle.texts.proofs.CutLemmas.{parts_first}
 use Rattle.key_mask.specs.declared.fields.Field.{Field}
-use Rattle.key_mask.specs.declared.fields.Field.TheVariants.{SrcIp, DstIp, SrcPort, DstPort, Proto, Tos, EtherType, SrcIp6, DstIp6}
+use Rattle.key_mask.specs.declared.fields.Field.TheVariants.{SrcIp}
 use Rattle.key_mask.specs.declared.items.FieldFault.{FieldFault}
-use Rattle.key_mask.specs.Fields.{field_number, name_of}
+use Rattle.key_mask.specs.Fields.{fields, field_number, name_of}
 use Rattle.key_mask.specs.Items.{is_slash, with_items}
 use Rattle.key_mask.specs.Keys.{key_in, with_item}
-use Rattle.key_mask.specs.Laws.{AreSpelled, KeysAreRead, NoOthersAreKeys, Spells, tail_of}
+use Rattle.key_mask.specs.Laws.{AreSpelled, KeysAreRead, NoOthersAreKeys, Spells}
 use Rattle.key_mask.specs.Masks.{AreParts, length_in, lengths_of, no_lengths}
+use Rattle.key_mask.proofs.FieldLemmas.{number_at, same_field}
 use Rattle.key_mask.proofs.ItemLemmas.{place_bind}
 use Rattle.key_mask.proofs.KeyLemmas.{item_is_read}
 use Rattle.key_mask.proofs.MaskLemmas.{none_stands}
 use Rattle.key_mask.proofs.OrderLemmas.{named_is}
-use Rattle.key_mask.proofs.PartLemmas.{Hold, hold_push, present, same_field}
+use Rattle.key_mask.proofs.PartLemmas.{Hold, hold_push, present}
 use Rattle.key_mask.proofs.PrefixLemmas.{behind_pass, prefix_allowed}
 use Rattle.key_mask.proofs.PrintLemmas.{cut_slash, is_plain, item_joined, name_found, name_plain, name_slashless, parts_joined}
 
 -- ---- lengths that are those of parts
 
-nine : (xs : List ℕ) → length xs ≡ 9
-    → xs ≡ get_or xs 0 0 ∷ get_or xs 1 0 ∷ get_or xs 2 0 ∷ get_or xs 3 0 ∷ get_or xs 4 0 ∷ get_or xs 5 0 ∷ get_or xs 6 0 ∷ get_or xs 7 0 ∷ get_or xs 8 0 ∷ []
-nine (a ∷ b ∷ c ∷ d ∷ e ∷ f ∷ g ∷ h ∷ i ∷ []) long = refl
-nine [] long = absurd (omega arith)
-nine (a ∷ []) long = absurd (omega arith)
-nine (a ∷ b ∷ []) long = absurd (omega arith)
-nine (a ∷ b ∷ c ∷ []) long = absurd (omega arith)
-nine (a ∷ b ∷ c ∷ d ∷ []) long = absurd (omega arith)
-nine (a ∷ b ∷ c ∷ d ∷ e ∷ []) long = absurd (omega arith)
-nine (a ∷ b ∷ c ∷ d ∷ e ∷ f ∷ []) long = absurd (omega arith)
-nine (a ∷ b ∷ c ∷ d ∷ e ∷ f ∷ g ∷ []) long = absurd (omega arith)
-nine (a ∷ b ∷ c ∷ d ∷ e ∷ f ∷ g ∷ h ∷ []) long = absurd (omega arith)
-nine (a ∷ b ∷ c ∷ d ∷ e ∷ f ∷ g ∷ h ∷ i ∷ j ∷ more) long = absurd (omega arith)
-
 held_lengths : (parts : List (Field × ℕ)) (lengths : List ℕ) → Hold parts lengths → lengths ≡ lengths_of parts
-held_lengths parts lengths held =
-    nine lengths held.long
-    ∙ (λ i. held.each SrcIp i ∷ held.each DstIp i ∷ held.each SrcPort i ∷ held.each DstPort i ∷ held.each Proto i ∷ held.each Tos i
-    ∷ held.each EtherType i ∷ held.each SrcIp6 i ∷ held.each DstIp6 i ∷ [])
+held_lengths parts lengths held = same_number_lists lengths (lengths_of parts) held.long each where
+  each : (k : ℕ) → k < length lengths → get_or lengths k 0 ≡ get_or (lengths_of parts) k 0
+  each k h =
+      let below : k < 9 = omega (arith, held.long) in
+      ap (λ n. get_or lengths n 0) (sym (number_at k below))
+      ∙ held.each (get_or fields k SrcIp)
+      ∙ sym (get_or-map (length_in parts) fields k SrcIp 0 below)
 
 none_held : Hold [] no_lengths
 none_held = record {
@@ -56,7 +48,7 @@ none_held = record {
 spelled_plain : (item : List ℕ) (part : Field × ℕ) → Spells item part → list_all is_plain item ≡ true
 spelled_plain item part spelled =
     ap (list_all is_plain) spelled.text
-    ∙ name_plain part.0 (tail_of spelled.behind) (behind_pass is_plain refl (λ c low high. grind (arith, nat_tests)) part.0 spelled.behind part.1 spelled.prefix)
+    ∙ name_plain part.0 (tail_of 47 spelled.behind) (behind_pass is_plain refl (λ c low high. grind (arith, nat_tests)) part.0 spelled.behind part.1 spelled.prefix)
 
 all_plain : (items : List (List ℕ)) (parts : List (Field × ℕ)) → AreSpelled items parts → list_all (list_all is_plain) items ≡ true
 all_plain [] [] h = refl
@@ -65,7 +57,7 @@ all_plain (item ∷ items) [] h = absurd h
 all_plain (item ∷ items) (part ∷ parts) h = rw (spelled_plain item part h.0) (all_plain items parts h.1)
 
 cut_name : (field : Field) (behind : Option (List ℕ))
-    → (front is_slash (name_of field ++ tail_of behind) ≡ name_of field) × (back is_slash (name_of field ++ tail_of behind) ≡ behind)
+    → (front is_slash (name_of field ++ tail_of 47 behind) ≡ name_of field) × (back is_slash (name_of field ++ tail_of 47 behind) ≡ behind)
 cut_name field None = cut_slash (name_of field) true [] (name_slashless field)
 cut_name field (Some text) = cut_slash (name_of field) false text (name_slashless field)
 
@@ -147,7 +139,7 @@ read_parts place (item ∷ items) done lengths whole held h =
       each = (
         record {
           behind = back is_slash item;
-          text = item_joined item ∙ ap (λ name. name ++ tail_of (back is_slash item)) (named_is (front is_slash item) read.field read.named);
+          text = item_joined item ∙ ap (λ name. name ++ tail_of 47 (back is_slash item)) (named_is (front is_slash item) read.field read.named);
           prefix = read.prefix_is;
         },
         rest.each,

@@ -1,65 +1,17 @@
 -- What the parts of a mask give each field.
-use Rattle.std.proofs.Common.{◌≡◌, ◌≢◌, ℕ, zero, suc, ◌+◌, ◌<◌, ◌==◌, ◌&&◌, Bool, true, false, cond, nat_le, List, [], ◌∷◌, ◌++◌, length, take, get_or, set, slice_index, IsTrue, unwrap_or, refl, ap, sym, ◌∙◌, subst, arith, ⊎_elim, eq-eqb, eqb-true}
+use Rattle.std.proofs.Common.{◌≡◌, ◌≢◌, ℕ, zero, suc, ◌+◌, ◌<◌, ◌==◌, Bool, true, false, List, [], ◌∷◌, ◌++◌, length, take, get_or, set, IsTrue, unwrap_or, refl, ap, sym, ◌∙◌, subst, arith, ⊎_elim, eq-eqb, eqb-true}
 use Rattle.std.specs.List.{All}
 use Rattle.std.specs.Map.{lookup}
 use Rattle.std.proofs.lemmas.Bool.{cases_Bool, cases_eq, false_from_ne_true, false≢true, ne_eqb}
-use Rattle.std.proofs.lemmas.Bool.Decides.{nat_tests}
 use Rattle.std.proofs.lemmas.List.{length-set, length-take-le, get_or-set_same, get_or-set_other, get_or-take, take_more}
 use Rattle.std.proofs.lemmas.List.Elements.{All-head, All-tail, All-push, All-weaker}
 use Rattle.std.proofs.lemmas.List.Quantifiers.{all_pairs_push}
 use Rattle.key_mask.specs.declared.fields.Field.{Field}
-use Rattle.key_mask.specs.declared.fields.Field.TheVariants.{SrcIp, DstIp, SrcPort, DstPort, Proto, Tos, EtherType, SrcIp6, DstIp6}
 use Rattle.key_mask.specs.declared.fields.TheConstants.{FIELD_COUNT}
-use Rattle.key_mask.specs.Fields.{fields, field_number, width_of, is_address, is_length}
-use Rattle.key_mask.specs.Masks.{AreLengths, AreParts, length_in, lengths_of}
-
--- ---- fields
-
--- a field stands at its number
-pub at_number : (field : Field) → get_or fields (field_number field) SrcIp ≡ field
-at_number SrcIp = refl
-at_number DstIp = refl
-at_number SrcPort = refl
-at_number DstPort = refl
-at_number Proto = refl
-at_number Tos = refl
-at_number EtherType = refl
-at_number SrcIp6 = refl
-at_number DstIp6 = refl
-
--- a field is that of its number
-pub same_field : (one other : Field) → field_number one ≡ field_number other → one ≡ other
-same_field one other e = sym (at_number one) ∙ ap (λ n. get_or fields n SrcIp) e ∙ at_number other
-
-pub number_below : (field : Field) → field_number field < FIELD_COUNT
-number_below SrcIp = omega arith
-number_below DstIp = omega arith
-number_below SrcPort = omega arith
-number_below DstPort = omega arith
-number_below Proto = omega arith
-number_below Tos = omega arith
-number_below EtherType = omega arith
-number_below SrcIp6 = omega arith
-number_below DstIp6 = omega arith
-
-width_positive : (field : Field) → 0 < width_of field
-width_positive SrcIp = omega arith
-width_positive DstIp = omega arith
-width_positive SrcPort = omega arith
-width_positive DstPort = omega arith
-width_positive Proto = omega arith
-width_positive Tos = omega arith
-width_positive EtherType = omega arith
-width_positive SrcIp6 = omega arith
-width_positive DstIp6 = omega arith
-
--- a field that stands in a mask leaves some bit
-pub length_positive : (field : Field) (length : ℕ) → IsTrue (is_length field length) → 0 < length
-length_positive field length = positive (is_address field) (width_of field) length (width_positive field) where
-  positive : (address : Bool) (width length : ℕ) → 0 < width
-      → cond address (nat_le 1 length && nat_le length width) (length == width) ≡ true → 0 < length
-  positive true width length wide e = grind (arith, nat_tests)
-  positive false width length wide e = grind (arith, nat_tests)
+use Rattle.key_mask.specs.Fields.{field_number, is_length}
+use Rattle.key_mask.specs.Masks.{AreParts, length_in}
+use Rattle.key_mask.proofs.FieldLemmas.{number_below, same_field}
+use Rattle.key_mask.proofs.PrefixLemmas.{length_within}
 
 -- ---- the length that stands beside a field
 
@@ -128,7 +80,7 @@ hold_push parts lengths part held free allowed =
     let number : ℕ = field_number part.0 in
     let below : number < length lengths = omega (arith, number_below part.0, held.long) in
     let some : All (λ part. 0 < part.1) parts =
-    All-weaker (λ part. IsTrue (is_length part.0 part.1)) (λ part. 0 < part.1) (λ part. length_positive part.0 part.1) parts held.valid.allowed in
+    All-weaker (λ part. IsTrue (is_length part.0 part.1)) (λ part. 0 < part.1) (λ part h. (length_within part.0 part.1 h).some) parts held.valid.allowed in
     let none : (k : ℕ) (d : Field × ℕ) → k < length parts → (field_number (get_or parts k d).0 == number) ≡ false =
     λ k d h. absent (λ other. field_number other == number) parts d some (sym (held.each part.0) ∙ free) k h in
     record {
@@ -180,35 +132,3 @@ repeated parts lengths i number d held h e taken valid =
 pub disallowed : (parts : List (Field × ℕ)) (i : ℕ) (d : Field × ℕ) → i < length parts
     → is_length (get_or parts i d).0 (get_or parts i d).1 ≡ false → AreParts parts → ⊥
 disallowed parts i d h e valid = false≢true (sym e ∙ valid.allowed i d h)
-
--- ---- the lengths of them all
-
-pub slice_index-lengths_of : (parts : List (Field × ℕ)) (field : Field)
-    → slice_index (lengths_of parts) (field_number field) ≡ length_in parts field
-slice_index-lengths_of parts SrcIp = refl
-slice_index-lengths_of parts DstIp = refl
-slice_index-lengths_of parts SrcPort = refl
-slice_index-lengths_of parts DstPort = refl
-slice_index-lengths_of parts Proto = refl
-slice_index-lengths_of parts Tos = refl
-slice_index-lengths_of parts EtherType = refl
-slice_index-lengths_of parts SrcIp6 = refl
-slice_index-lengths_of parts DstIp6 = refl
-
-length_in_allowed : (parts : List (Field × ℕ)) (field : Field) → AreParts parts → length_in parts field ≢ 0
-    → IsTrue (is_length field (length_in parts field))
-length_in_allowed parts field valid some =
-    let part : (k : ℕ) × (k < length parts) × ((field_number (get_or parts k (field, 0)).0 == field_number field) ≡ true)
-    × (length_in parts field ≡ (get_or parts k (field, 0)).1) =
-    present (λ other. field_number other == field_number field) parts (field, 0) some in
-    let its : Field = (get_or parts part.0 (field, 0)).0 in
-    let same : its ≡ field = same_field its field (eqb-true (field_number its) (field_number field) part.2) in
-    rw part.3 (subst (λ f. IsTrue (is_length f (get_or parts part.0 (field, 0)).1)) same (valid.allowed part.0 (field, 0) part.1))
-
-pub lengths_allowed : (parts : List (Field × ℕ)) → AreParts parts → AreLengths (lengths_of parts)
-lengths_allowed parts valid = record {
-  whole = refl;
-  allowed = λ field some.
-      rw (slice_index-lengths_of parts field)
-      (length_in_allowed parts field valid (λ z. some (slice_index-lengths_of parts field ∙ z)));
-}

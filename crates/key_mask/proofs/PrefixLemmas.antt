@@ -7,13 +7,15 @@ use Rattle.std.proofs.lemmas.Bool.{cases_eq, false≢true, ne_eqb}
 use Rattle.std.proofs.lemmas.Bool.Decides.{nat_tests}
 use Rattle.std.proofs.lemmas.Fmt.{length-decimal-le}
 use Rattle.key_mask.specs.declared.fields.Field.{Field}
-use Rattle.key_mask.specs.declared.fields.Field.TheVariants.{SrcIp, DstIp, SrcPort, DstPort, Proto, Tos, EtherType, SrcIp6, DstIp6}
+use Rattle.key_mask.specs.declared.fields.ValueKind.{ValueKind}
+use Rattle.key_mask.specs.declared.fields.ValueKind.TheVariants.{Ipv4, Port, Byte, Hex, Ipv6}
 use Rattle.key_mask.specs.Fields.{width_of, kind_of, prefix_digits, is_length}
 use Rattle.key_mask.specs.Numbers.{number_in}
 use Rattle.key_mask.specs.Items.{is_canonical_prefix, longest_prefix, not_zero, prefix_in, prefix_text}
+use Rattle.key_mask.proofs.FieldLemmas.{each_field, kind_width, width_is}
 use Rattle.key_mask.proofs.NumberLemmas.{number_again, decimal_lead, decimal_pass, digits_pass, number_read, number_text}
 use Rattle.std.specs.Str.Parse.{AllDigits}
-use Rattle.key_mask.specs.Laws.{tail_of}
+use Rattle.texts.specs.Cuts.{tail_of}
 use Rattle.key_mask.specs.Spellings.{has_no_leading_zero}
 
 -- the digits that a prefix may have are enough for the whole width
@@ -26,16 +28,15 @@ pub record IsRow (digits : Option ℕ) (width : ℕ) : Type 0 where
   pub some : 0 < width
   pub few : width ≤ 128
 
+kind_row : (kind : ValueKind) → IsRow (prefix_digits kind) (kind_width kind)
+kind_row Ipv4 = record { enough = (omega arith, omega arith); some = omega arith; few = omega arith }
+kind_row Port = record { enough = tt; some = omega arith; few = omega arith }
+kind_row Byte = record { enough = tt; some = omega arith; few = omega arith }
+kind_row Hex = record { enough = tt; some = omega arith; few = omega arith }
+kind_row Ipv6 = record { enough = (omega arith, omega arith); some = omega arith; few = omega arith }
+
 pub each_row : (field : Field) → IsRow (prefix_digits (kind_of field)) (width_of field)
-each_row SrcIp = record { enough = (omega arith, omega arith); some = omega arith; few = omega arith }
-each_row DstIp = record { enough = (omega arith, omega arith); some = omega arith; few = omega arith }
-each_row SrcPort = record { enough = tt; some = omega arith; few = omega arith }
-each_row DstPort = record { enough = tt; some = omega arith; few = omega arith }
-each_row Proto = record { enough = tt; some = omega arith; few = omega arith }
-each_row Tos = record { enough = tt; some = omega arith; few = omega arith }
-each_row EtherType = record { enough = tt; some = omega arith; few = omega arith }
-each_row SrcIp6 = record { enough = (omega arith, omega arith); some = omega arith; few = omega arith }
-each_row DstIp6 = record { enough = (omega arith, omega arith); some = omega arith; few = omega arith }
+each_row field = subst (IsRow (prefix_digits (kind_of field))) (sym (width_is field)) (kind_row (kind_of field))
 
 -- a length between 1 and the width
 pub record IsWithin (width n : ℕ) : Type 0 where
@@ -145,7 +146,7 @@ behind_is (Some digits) width p text few h lead = inner (number_in digits width 
       number_text digits width n text (omega (arith, few)) e lead ∙ ap decimal equal)
       (cases_eq n 0)
 
-pub prefix_is : (field : Field) (o : Option (List ℕ)) (p : ℕ) → prefix_in field o ≡ Some p → is_canonical_prefix field o ≡ true → tail_of o ≡ prefix_text field p
+pub prefix_is : (field : Field) (o : Option (List ℕ)) (p : ℕ) → prefix_in field o ≡ Some p → is_canonical_prefix field o ≡ true → tail_of 47 o ≡ prefix_text field p
 prefix_is field None p h spelled =
     let same : width_of field ≡ p = cc h in
     let t : (p == width_of field) ≡ true = eq-eqb p (width_of field) (sym same) in
@@ -165,15 +166,7 @@ prefix_is field (Some text) p h spelled =
 -- ---- a prefix that is read is one of the field
 
 whole_allowed : (field : Field) → is_length field (width_of field) ≡ true
-whole_allowed SrcIp = refl
-whole_allowed DstIp = refl
-whole_allowed SrcPort = refl
-whole_allowed DstPort = refl
-whole_allowed Proto = refl
-whole_allowed Tos = refl
-whole_allowed EtherType = refl
-whole_allowed SrcIp6 = refl
-whole_allowed DstIp6 = refl
+whole_allowed = each_field (λ field. is_length field (width_of field)) refl
 
 behind_allowed : (digits : Option ℕ) (width p : ℕ) (text : List ℕ)
     → option_and_then (λ d. option_and_then not_zero (number_in d width text)) digits ≡ Some p
@@ -202,7 +195,7 @@ prefix_allowed field (Some text) p h = (behind_allowed (prefix_digits (kind_of f
 
 -- and its digits pass a test that digits pass
 pub behind_pass : (test : ℕ → Bool) → test 47 ≡ true → ((c : ℕ) → 48 ≤ c → c ≤ 57 → test c ≡ true) → (field : Field) (o : Option (List ℕ)) (p : ℕ)
-    → prefix_in field o ≡ Some p → list_all test (tail_of o) ≡ true
+    → prefix_in field o ≡ Some p → list_all test (tail_of 47 o) ≡ true
 behind_pass test slash each field None p h = refl
 behind_pass test slash each field (Some text) p h =
     rw (slash, digits_pass test each text (behind_allowed (prefix_digits (kind_of field)) (width_of field) p text h).1) refl

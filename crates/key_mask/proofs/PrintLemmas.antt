@@ -1,15 +1,15 @@
 -- What is printed of items, and how it is cut again.
-use Rattle.std.proofs.Common.{◌≡◌, ◌≢◌, ℕ, ◌+◌, ◌<◌, ◌≤◌, ◌==◌, ◌&&◌, Bool, true, false, not, cond, List, [], ◌∷◌, ◌++◌, length, take, get_or, slice_index, Option, None, Some, refl, ap, ◌∙◌, arith, append_assoc, length-append, ⊎_elim, eq-eqb}
-use Rattle.std.specs.List.{fold, join_with_byte, list_all, sum_by}
+use Rattle.std.proofs.Common.{◌≡◌, ◌≢◌, ℕ, ◌<◌, ◌==◌, ◌&&◌, Bool, true, false, not, cond, List, [], ◌∷◌, ◌++◌, length, slice_index, Option, None, Some, refl, ap, ◌∙◌, arith, append-nil, append_assoc, length-append, ⊎_elim, eq-eqb, eqb-true}
+use Rattle.std.specs.List.{fold, join_with_byte, list_all}
+use Rattle.std.specs.Option.{option_map_or}
 use Rattle.std.proofs.lemmas.Bool.{cases_eq, false≢true, ne_eqb}
-use Rattle.std.proofs.lemmas.List.Sums.{sum_by_more_le}
-use Rattle.texts.specs.Cuts.{front, back, parts}
-use Rattle.texts.proofs.CutLemmas.{split_last, split_more}
+use Rattle.std.proofs.lemmas.List.Folds.{list_all-append}
+use Rattle.texts.specs.Cuts.{front, back, parts, tail_of}
+use Rattle.texts.proofs.CutLemmas.{back_free, cut, front_free, joined, split_last, split_more}
 use Rattle.key_mask.specs.declared.fields.Field.{Field}
-use Rattle.key_mask.specs.declared.fields.Field.TheVariants.{SrcIp, DstIp, SrcPort, DstPort, Proto, Tos, EtherType, SrcIp6, DstIp6}
 use Rattle.key_mask.specs.Fields.{fields, field_number, name_of}
-use Rattle.key_mask.specs.Laws.{tail_of}
-use Rattle.key_mask.specs.Items.{field_named, is_slash, item_text, item_texts, items_text, longest_item, longest_items, with_field}
+use Rattle.key_mask.specs.Items.{field_named, is_slash, item_text, item_texts, items_text, with_field}
+use Rattle.key_mask.proofs.FieldLemmas.{each_field, each_within, same_field}
 
 -- ---- the line that the items make
 
@@ -22,15 +22,8 @@ joined_more first item [] = refl
 joined_more first item (next ∷ items) = append_assoc first (44 ∷ item) (44 ∷ join_with_byte 44 (next ∷ items))
 
 name_some : (field : Field) (rest : List ℕ) → 0 < length (name_of field ++ rest)
-name_some SrcIp rest = omega arith
-name_some DstIp rest = omega arith
-name_some SrcPort rest = omega arith
-name_some DstPort rest = omega arith
-name_some Proto rest = omega arith
-name_some Tos rest = omega arith
-name_some EtherType rest = omega arith
-name_some SrcIp6 rest = omega arith
-name_some DstIp6 rest = omega arith
+name_some field rest =
+    omega (arith, length-append (name_of field) rest, each_within (λ field. 1) (λ field. length (name_of field)) refl field)
 
 -- behind a line that is not empty
 fields_behind : (values : Option (List ℕ)) (lengths line : List ℕ) (fields : List Field) → 0 < length line
@@ -68,76 +61,37 @@ pub line_of_fields : (values : Option (List ℕ)) (lengths : List ℕ) → with_
 unfolding items_text
 line_of_fields values lengths = fields_first values lengths fields
 
--- it fits a line
-all_fit : (valued : Bool) → longest_items valued ≤ 512
-all_fit true = omega arith
-all_fit false = omega arith
-
-pub one_fits : (valued : Bool) (i : ℕ) → i < 9
-    → sum_by (λ field. longest_item valued field + 1) (take i fields) + (longest_item valued (get_or fields i SrcIp) + 1) ≤ 512
-one_fits valued i h = omega (arith, sum_by_more_le (λ field. longest_item valued field + 1) fields i SrcIp h, all_fit valued)
-
 -- ---- items are cut again
 
 -- at the slash, where there is one
 pub cut_slash : (xs : List ℕ) (b : Bool) (digits : List ℕ) → list_all (λ c. not (is_slash c)) xs ≡ true
     → (front is_slash (xs ++ cond b [] (47 ∷ digits)) ≡ xs) × (back is_slash (xs ++ cond b [] (47 ∷ digits)) ≡ cond b None (Some digits))
-cut_slash [] true digits e = (refl, refl)
-cut_slash [] false digits e = (refl, refl)
-cut_slash (x ∷ xs) b digits e =
-    elim (x == 47) as (λ t. (not t && list_all (λ c. not (is_slash c)) xs) ≡ true
-    → (cond t [] (x ∷ front is_slash (xs ++ cond b [] (47 ∷ digits))) ≡ x ∷ xs)
-    × (cond t (Some (xs ++ cond b [] (47 ∷ digits))) (back is_slash (xs ++ cond b [] (47 ∷ digits))) ≡ cond b None (Some digits))) [
-      | true ↦ λ e. absurd (false≢true e)
-      | false ↦ λ e. (ap (λ ys. x ∷ ys) (cut_slash xs b digits e).0, (cut_slash xs b digits e).1)
-    ] e
+cut_slash xs true digits e = rw append-nil (front_free is_slash xs e, back_free is_slash xs e)
+cut_slash xs false digits e = cut is_slash xs 47 digits e refl
 
 -- a text is what stands before its first slash, and the slash with what stands behind it
-pub item_joined : (item : List ℕ) → item ≡ front is_slash item ++ tail_of (back is_slash item)
-item_joined [] = refl
-item_joined (x ∷ xs) =
-    ⊎_elim
-    (λ (e : x ≡ 47). let t : (x == 47) ≡ true = eq-eqb x 47 e in rw t (ap (λ y. y ∷ xs) e))
-    (λ (ne : x ≢ 47). let t : (x == 47) ≡ false = ne_eqb x 47 ne in rw t (ap (λ ys. x ∷ ys) (item_joined xs)))
-    (cases_eq x 47)
+pub item_joined : (item : List ℕ) → item ≡ front is_slash item ++ tail_of 47 (back is_slash item)
+item_joined item = joined 47 item
 
 pub name_slashless : (field : Field) → list_all (λ c. not (is_slash c)) (name_of field) ≡ true
-name_slashless SrcIp = refl
-name_slashless DstIp = refl
-name_slashless SrcPort = refl
-name_slashless DstPort = refl
-name_slashless Proto = refl
-name_slashless Tos = refl
-name_slashless EtherType = refl
-name_slashless SrcIp6 = refl
-name_slashless DstIp6 = refl
+name_slashless = each_field (λ field. list_all (λ c. not (is_slash c)) (name_of field)) refl
 
 pub name_found : (field : Field) → field_named (name_of field) ≡ Some field
 unfolding field_named
-name_found SrcIp = refl
-name_found DstIp = refl
-name_found SrcPort = refl
-name_found DstPort = refl
-name_found Proto = refl
-name_found Tos = refl
-name_found EtherType = refl
-name_found SrcIp6 = refl
-name_found DstIp6 = refl
+name_found field =
+    it_is (field_named (name_of field))
+    (each_field (λ field. option_map_or (λ other. field_number other == field_number field) (field_named (name_of field)) false) refl field) where
+      it_is : (found : Option Field) → option_map_or (λ other. field_number other == field_number field) found false ≡ true → found ≡ Some field
+      it_is None t = absurd (false≢true t)
+      it_is (Some other) t = ap (λ f. Some f) (same_field other field (eqb-true (field_number other) (field_number field) t))
 
 -- no comma
 abbrev pub is_plain : ℕ → Bool
 is_plain byte = not (byte == 44)
 
 pub name_plain : (field : Field) (xs : List ℕ) → list_all is_plain xs ≡ true → list_all is_plain (name_of field ++ xs) ≡ true
-name_plain SrcIp xs e = e
-name_plain DstIp xs e = e
-name_plain SrcPort xs e = e
-name_plain DstPort xs e = e
-name_plain Proto xs e = e
-name_plain Tos xs e = e
-name_plain EtherType xs e = e
-name_plain SrcIp6 xs e = e
-name_plain DstIp6 xs e = e
+name_plain field xs e =
+    list_all-append is_plain (name_of field) xs ∙ rw (each_field (λ field. list_all is_plain (name_of field)) refl field) e
 
 -- at the commas
 pub parts_joined : (items : List (List ℕ)) → list_all (list_all is_plain) items ≡ true → 0 < length items → parts 44 (join_with_byte 44 items) ≡ items

@@ -1,30 +1,21 @@
 -- The values of fields, printed and read.
-use Rattle.std.proofs.Common.{◌≡◌, ℕ, ◌+◌, ◌*◌, ◌/◌, ◌%◌, ◌^◌, ◌<◌, ◌≤◌, ◌==◌, ◌&&◌, Bool, true, false, not, cond, List, [], ◌∷◌, ◌++◌, Some, refl, ap, ◌∙◌, arith}
+use Rattle.std.proofs.Common.{◌≡◌, ℕ, ◌+◌, ◌*◌, ◌/◌, ◌%◌, ◌^◌, ◌<◌, ◌≤◌, Bool, true, not, List, ◌∷◌, ◌++◌, Some, refl, ap, ◌∙◌, arith}
 use Rattle.std.specs.Char.{digit_char}
 use Rattle.std.specs.Fmt.{decimal}
 use Rattle.std.specs.List.{list_all}
-use Rattle.std.proofs.lemmas.Bool.{false≢true}
 use Rattle.std.proofs.lemmas.Bool.Decides.{nat_tests}
 use Rattle.std.proofs.lemmas.List.Folds.{list_all-append}
-use Rattle.texts.specs.Cuts.{front, back}
+use Rattle.texts.proofs.CutLemmas.{cut}
 use Rattle.key_mask.specs.declared.fields.Field.{Field}
-use Rattle.key_mask.specs.declared.fields.Field.TheVariants.{SrcIp, DstIp, SrcPort, DstPort, Proto, Tos, EtherType, SrcIp6, DstIp6}
-use Rattle.key_mask.specs.Fields.{width_of}
+use Rattle.key_mask.specs.declared.fields.ValueKind.{ValueKind}
+use Rattle.key_mask.specs.declared.fields.ValueKind.TheVariants.{Ipv4, Port, Byte, Hex, Ipv6}
+use Rattle.key_mask.specs.Fields.{kind_of, width_of}
 use Rattle.key_mask.specs.Numbers.{address_in, hex_in, is_dot, number_in}
-use Rattle.key_mask.specs.Spellings.{address_text, hex_text, value_in, value_text}
+use Rattle.key_mask.specs.Spellings.{address_text, hex_text, kind_text, kind_value_in, value_in, value_text}
+use Rattle.key_mask.proofs.FieldLemmas.{kind_fits, kind_width}
 use Rattle.key_mask.proofs.Ipv6AgainLemmas.{ipv6_again, ipv6_all}
 use Rattle.key_mask.proofs.NumberLemmas.{decimal_pass, digit_again, number_again}
 use Rattle.key_mask.proofs.VectorLemmas.{value_back}
-
-cut_dot : (xs ys : List ℕ) → list_all (λ c. not (is_dot c)) xs ≡ true → (front is_dot (xs ++ 46 ∷ ys) ≡ xs) × (back is_dot (xs ++ 46 ∷ ys) ≡ Some ys)
-cut_dot [] ys e = (refl, refl)
-cut_dot (x ∷ xs) ys e =
-    elim (x == 46) as (λ t. (not t && list_all (λ c. not (is_dot c)) xs) ≡ true
-    → (cond t [] (x ∷ front is_dot (xs ++ 46 ∷ ys)) ≡ x ∷ xs)
-    × (cond t (Some (xs ++ 46 ∷ ys)) (back is_dot (xs ++ 46 ∷ ys)) ≡ Some ys)) [
-      | true ↦ λ e. absurd (false≢true e)
-      | false ↦ λ e. (ap (λ zs. x ∷ zs) (cut_dot xs ys e).0, (cut_dot xs ys e).1)
-    ] e
 
 dotless : (n : ℕ) → n < 256 → list_all (λ c. not (is_dot c)) (decimal n) ≡ true
 dotless n small = decimal_pass (λ c. not (is_dot c)) (λ c low high. grind (arith, nat_tests)) n (omega arith)
@@ -36,9 +27,9 @@ dotted_again : (a b c d : ℕ) → a < 256 → b < 256 → c < 256 → d < 256
     → address_in (decimal a ++ 46 ∷ (decimal b ++ 46 ∷ (decimal c ++ 46 ∷ decimal d))) ≡ Some (((a * 256 + b) * 256 + c) * 256 + d)
 unfolding address_in
 dotted_again a b c d la lb lc ld =
-    let one = cut_dot (decimal a) (decimal b ++ 46 ∷ (decimal c ++ 46 ∷ decimal d)) (dotless a la) in
-    let two = cut_dot (decimal b) (decimal c ++ 46 ∷ decimal d) (dotless b lb) in
-    let three = cut_dot (decimal c) (decimal d) (dotless c lc) in
+    let one = cut is_dot (decimal a) 46 (decimal b ++ 46 ∷ (decimal c ++ 46 ∷ decimal d)) (dotless a la) refl in
+    let two = cut is_dot (decimal b) 46 (decimal c ++ 46 ∷ decimal d) (dotless b lb) refl in
+    let three = cut is_dot (decimal c) 46 (decimal d) (dotless c lc) refl in
     rw (one.0, one.1, byte_again a la, two.0, two.1, byte_again b lb, three.0, three.1, byte_again c lc, byte_again d ld) refl
 
 address_again : (n : ℕ) → n < 2 ^ 32 → address_in (address_text n) ≡ Some n
@@ -57,16 +48,15 @@ hex_again n small =
     rw (digit_again (n / 16 / 16 / 16) (omega arith), digit_again (n / 16 / 16 % 16) (omega arith), digit_again (n / 16 % 16) (omega arith), digit_again (n % 16) (omega arith))
     (ap (λ m. Some m) (omega arith))
 
+kind_again : (kind : ValueKind) (n : ℕ) → n < 2 ^ kind_width kind → kind_value_in kind (kind_text kind n) ≡ Some n
+kind_again Ipv4 n small = address_again n small
+kind_again Port n small = number_again 5 65535 n (omega arith) (omega arith) (omega arith) (omega arith)
+kind_again Byte n small = byte_again n (omega arith)
+kind_again Hex n small = hex_again n (omega arith)
+kind_again Ipv6 n small = ipv6_again n small
+
 pub value_again : (field : Field) (n : ℕ) → n < 2 ^ width_of field → value_in field (value_text field n) ≡ Some n
-value_again SrcIp n small = address_again n small
-value_again DstIp n small = address_again n small
-value_again SrcPort n small = number_again 5 65535 n (omega arith) (omega arith) (omega arith) (omega arith)
-value_again DstPort n small = number_again 5 65535 n (omega arith) (omega arith) (omega arith) (omega arith)
-value_again Proto n small = byte_again n (omega arith)
-value_again Tos n small = byte_again n (omega arith)
-value_again EtherType n small = hex_again n (omega arith)
-value_again SrcIp6 n small = ipv6_again n small
-value_again DstIp6 n small = ipv6_again n small
+value_again field n small = kind_again (kind_of field) n (kind_fits field n small)
 
 -- ---- with which bytes a value is printed
 
@@ -99,13 +89,12 @@ unfolding hex_text
 hex_pass p each n small =
     rw (each.decimals 48 (omega arith) (omega arith), each.letter, each.digits (n / 16 / 16 / 16) (omega arith), each.digits (n / 16 / 16 % 16) (omega arith), each.digits (n / 16 % 16) (omega arith), each.digits (n % 16) (omega arith)) refl
 
+pub kind_pass : (p : ℕ → Bool) → PassesAll p → (kind : ValueKind) (n : ℕ) → n < 2 ^ kind_width kind → list_all p (kind_text kind n) ≡ true
+kind_pass p each Ipv4 n small = address_pass p each n
+kind_pass p each Port n small = decimal_pass p each.decimals n (omega arith)
+kind_pass p each Byte n small = decimal_pass p each.decimals n (omega arith)
+kind_pass p each Hex n small = hex_pass p each n (omega arith)
+kind_pass p each Ipv6 n small = ipv6_all p each.colon each.digits n
+
 pub value_pass : (p : ℕ → Bool) → PassesAll p → (field : Field) (n : ℕ) → n < 2 ^ width_of field → list_all p (value_text field n) ≡ true
-value_pass p each SrcIp n small = address_pass p each n
-value_pass p each DstIp n small = address_pass p each n
-value_pass p each SrcPort n small = decimal_pass p each.decimals n (omega arith)
-value_pass p each DstPort n small = decimal_pass p each.decimals n (omega arith)
-value_pass p each Proto n small = decimal_pass p each.decimals n (omega arith)
-value_pass p each Tos n small = decimal_pass p each.decimals n (omega arith)
-value_pass p each EtherType n small = hex_pass p each n (omega arith)
-value_pass p each SrcIp6 n small = ipv6_all p each.colon each.digits n
-value_pass p each DstIp6 n small = ipv6_all p each.colon each.digits n
+value_pass p each field n small = kind_pass p each (kind_of field) n (kind_fits field n small)

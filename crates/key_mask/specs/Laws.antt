@@ -1,6 +1,7 @@
 -- Laws of keys, and of IPv6 addresses as texts.
-use Rattle.std.specs.Prelude.{◌≡◌, ◌≢◌, ℕ, ◌<◌, ◌⊎◌, List, [], ◌∷◌, ◌++◌, length, IsTrue, Option, None, Some, Ok}
+use Rattle.std.specs.Prelude.{◌≡◌, ◌≢◌, ℕ, ◌<◌, ◌⊎◌, List, [], ◌∷◌, ◌++◌, length, IsTrue, Option, Some, Ok}
 use Rattle.std.specs.List.{join_with_byte}
+use Rattle.texts.specs.Cuts.{tail_of}
 use Rattle.key_mask.specs.declared.fields.Field.{Field}
 use Rattle.key_mask.specs.Fields.{name_of}
 use Rattle.key_mask.specs.Ipv6.{eight_groups_in}
@@ -11,15 +12,10 @@ use Rattle.key_mask.specs.Masks.{AreLengths, AreParts, lengths_of, no_lengths}
 
 -- ---- which texts are keys
 
--- a slash and what stands behind it
-abbrev pub tail_of : Option (List ℕ) → List ℕ
-tail_of None = []
-tail_of (Some text) = 47 ∷ text
-
 -- an item spells a field with a prefix length: the field's name, and a slash with that length or nothing for the whole
 pub record Spells (item : List ℕ) (part : Field × ℕ) : Type 0 where
   pub behind : Option (List ℕ)
-  pub text : item ≡ name_of part.0 ++ tail_of behind
+  pub text : item ≡ name_of part.0 ++ tail_of 47 behind
   pub prefix : prefix_in part.0 behind ≡ Some part.1
 
 abbrev pub AreSpelled : List (List ℕ) → List (Field × ℕ) → Type 0

@@ -10,14 +10,15 @@ use Rattle.std.proofs.lemmas.List.Folds.{list_all-append}
 use Rattle.std.proofs.lemmas.Slice.Eq.{bytes_eq-Decides}
 use Rattle.texts.specs.Cuts.{front, back, parts}
 use Rattle.key_mask.specs.declared.fields.Field.{Field}
-use Rattle.key_mask.specs.declared.fields.Field.TheVariants.{SrcIp, DstIp, SrcPort, DstPort, Proto, Tos, EtherType, SrcIp6, DstIp6}
 use Rattle.key_mask.specs.Bytes.{and_bytes}
 use Rattle.key_mask.specs.Fields.{fields, field_number, is_length, name_of, size_of, start_of, width_of}
 use Rattle.key_mask.specs.Items.{◌>>=◌, is_slash, item_text, item_texts, items_text, prefix_text, with_items}
 use Rattle.key_mask.specs.Masks.{mask_bytes_of, no_lengths}
 use Rattle.key_mask.specs.Spellings.{value_text}
 use Rattle.key_mask.specs.Vectors.{bytes_at, value_at, with_value}
-use Rattle.key_mask.proofs.ItemLemmas.{AreSteps, IsStep, items_again}
+use Rattle.key_mask.proofs.FieldLemmas.{each_equal, each_field, each_within, number_below}
+use Rattle.texts.proofs.CutLemmas.{cut}
+use Rattle.key_mask.proofs.ItemLemmas.{IsStep, items_again}
 use Rattle.key_mask.proofs.KeyLemmas.{filled_next, first_all, first_lengths, first_none, free_next, kept_next}
 use Rattle.key_mask.proofs.PrefixLemmas.{each_row, length_within, prefix_again, prefix_pass}
 use Rattle.key_mask.proofs.PrintLemmas.{cut_slash, is_plain, items_plain, name_found, name_plain, parts_joined}
@@ -28,20 +29,12 @@ use Rattle.task_filters.specs.Filters.{Pattern, IsFilter}
 use Rattle.task_filters.specs.Laws.{FilterAgain}
 use Rattle.task_filters.specs.Printing.{filter_text}
 use Rattle.task_filters.specs.Terms.{is_colon, kept_terms, no_terms, terms_in, with_both, with_term}
-use Rattle.task_filters.proofs.ByteLemmas.{and_zeros, field_absent, field_small, length-bytes_at, value_fits, value_small}
+use Rattle.task_filters.proofs.ByteLemmas.{and_zeros, field_absent, field_small, inside, length-bytes_at, value_fits, value_small}
 
 -- ---- an item is read as what it was printed of
 
 pub cut_colon : (field : Field) (rest : List ℕ) → (front is_colon (name_of field ++ 58 ∷ rest) ≡ name_of field) × (back is_colon (name_of field ++ 58 ∷ rest) ≡ Some rest)
-cut_colon SrcIp rest = (refl, refl)
-cut_colon DstIp rest = (refl, refl)
-cut_colon SrcPort rest = (refl, refl)
-cut_colon DstPort rest = (refl, refl)
-cut_colon Proto rest = (refl, refl)
-cut_colon Tos rest = (refl, refl)
-cut_colon EtherType rest = (refl, refl)
-cut_colon SrcIp6 rest = (refl, refl)
-cut_colon DstIp6 rest = (refl, refl)
+cut_colon field rest = cut is_colon (name_of field) 58 rest (each_field (λ field. list_all (λ c. not (is_colon c)) (name_of field)) refl field) refl
 
 term_again : (found : Pattern) (bytes : List ℕ) (field : Field) (n : ℕ) → value_at bytes field < 2 ^ width_of field → slice_index found.mask (field_number field) ≡ 0
     → IsTrue (is_length field n) → with_term found (item_text (Some bytes) field n) ≡ Ok (with_both found field n (value_at bytes field))
@@ -86,85 +79,45 @@ place k = sum_by size_of (take k fields)
 abbrev first_terms : Pattern → ℕ → Pattern
 first_terms pattern k = record { value = first_lengths pattern.value (place k); mask = first_lengths pattern.mask k }
 
-record IsPlaced (field : Field) (k : ℕ) : Type 0 where
-  number : field_number field ≡ k
-  start : start_of field ≡ place k
-  next : place k + size_of field ≡ place (suc k)
-  few : k < 9
-  inside : place k + size_of field ≤ 48
+starts : (field : Field) → start_of field ≡ place (field_number field)
+starts = each_equal start_of (λ field. place (field_number field)) refl
 
-same_bytes : (pattern : Pattern) → IsFilter pattern → (field : Field) (k : ℕ) → IsPlaced field k
-    → bytes_at pattern.value field ≡ take (size_of field) (drop (place k) pattern.value)
-same_bytes pattern filter field k at =
+ends : (field : Field) → start_of field + size_of field ≡ place (suc (field_number field))
+ends = each_equal (λ field. start_of field + size_of field) (λ field. place (suc (field_number field))) refl
+
+same_bytes : (bytes : List ℕ) (field : Field) → bytes_at bytes field ≡ take (size_of field) (drop (start_of field) bytes)
+same_bytes bytes field =
     let count : start_of field + size_of field - start_of field ≡ size_of field = omega arith in
-    (λ i. take (count i) (drop (at.start i) pattern.value))
+    rw count refl
 
-filter_step : (pattern : Pattern) → IsFilter pattern → (field : Field) (k : ℕ) → IsPlaced field k
-    → IsStep with_term (Some pattern.value) pattern.mask (first_terms pattern k) (first_terms pattern (suc k)) field
+filter_step : (pattern : Pattern) → IsFilter pattern → (field : Field)
+    → IsStep with_term (Some pattern.value) pattern.mask (first_terms pattern (field_number field)) (first_terms pattern (suc (field_number field))) field
 unfolding with_value value_at
-filter_step pattern filter field k at =
+filter_step pattern filter field =
     let value : List ℕ = pattern.value in
     let lengths : List ℕ = pattern.mask in
-    let n : ℕ = slice_index lengths (field_number field) in
+    let k : ℕ = field_number field in
+    let start : ℕ = start_of field in
+    let size : ℕ = size_of field in
+    let n : ℕ = slice_index lengths k in
     let small = value_small pattern filter.kept in
-    let bytes : bytes_high_first (size_of field) (value_at value field) ≡ take (size_of field) (drop (place k) value) =
-    rw (length-bytes_at value field filter.long) at (bytes_back (bytes_at value field) (field_small value field small)) ∙ same_bytes pattern filter field k at in
+    let bytes : bytes_high_first size (value_at value field) ≡ take size (drop start value) =
+    rw (length-bytes_at value field filter.long) at (bytes_back (bytes_at value field) (field_small value field small)) ∙ same_bytes value field in
+    let begins : first_lengths value (place k) ≡ first_lengths value start = ap (first_lengths value) (sym (starts field)) in
     record {
       absent = λ none.
-          let bare : take (size_of field) (drop (place k) value) ≡ replicate {A = ℕ} (size_of field) 0 = sym (same_bytes pattern filter field k at) ∙ field_absent pattern filter field none in
-          let first : first_lengths value (place (suc k)) ≡ first_lengths value (place k) = ap (first_lengths value) (sym at.next) ∙ blank value (place k) (size_of field) bare in
-          let second : first_lengths lengths (suc k) ≡ first_lengths lengths k = kept_next lengths k (ap (slice_index lengths) (sym at.number) ∙ none) in
+          let bare : take size (drop start value) ≡ replicate {A = ℕ} size 0 = sym (same_bytes value field) ∙ field_absent pattern filter field none in
+          let first : first_lengths value (place (suc k)) ≡ first_lengths value (place k) = ap (first_lengths value) (sym (ends field)) ∙ blank value start size bare ∙ sym begins in
+          let second : first_lengths lengths (suc k) ≡ first_lengths lengths k = kept_next lengths k none in
           (λ i. record { value = first i; mask = second i });
       present = λ some.
-          let free : slice_index (first_lengths lengths k) (field_number field) ≡ 0 = ap (slice_index (first_lengths lengths k)) at.number ∙ free_next lengths k in
-          let read = term_again (first_terms pattern k) value field n (value_fits value field filter.long small) free (filter.known.allowed field some) in
+          let read = term_again (first_terms pattern k) value field n (value_fits value field filter.long small) (free_next lengths k) (filter.known.allowed field some) in
           let first : with_value (first_lengths value (place k)) field (value_at value field) ≡ first_lengths value (place (suc k)) =
-          (λ i. take (at.start i) (first_lengths value (place k)) ++ (bytes i ++ drop (at.start i + size_of field) (first_lengths value (place k))))
-          ∙ fill value (place k) (size_of field) (omega (arith, at.inside, filter.long)) ∙ ap (first_lengths value) at.next in
-          let second : slice_set (first_lengths lengths k) (field_number field) n ≡ first_lengths lengths (suc k) =
-          (λ i. slice_set (first_lengths lengths k) (at.number i) (slice_index lengths (at.number i))) ∙ filled_next lengths k (omega (arith, at.few, filter.known.whole)) in
+          (λ i. take start (begins i) ++ (bytes i ++ drop (start + size) (begins i)))
+          ∙ fill value start size (omega (arith, inside field, filter.long)) ∙ ap (first_lengths value) (ends field) in
+          let second : slice_set (first_lengths lengths k) k n ≡ first_lengths lengths (suc k) = filled_next lengths k (omega (arith, number_below field, filter.known.whole)) in
           read ∙ (λ i. Ok (record { value = first i; mask = second i }));
     }
-
-placed : (field : Field) → IsPlaced field (field_number field)
-placed SrcIp = record { number = refl; start = refl; next = refl; few = omega arith; inside = omega arith }
-placed DstIp = record { number = refl; start = refl; next = refl; few = omega arith; inside = omega arith }
-placed SrcPort = record { number = refl; start = refl; next = refl; few = omega arith; inside = omega arith }
-placed DstPort = record { number = refl; start = refl; next = refl; few = omega arith; inside = omega arith }
-placed Proto = record { number = refl; start = refl; next = refl; few = omega arith; inside = omega arith }
-placed Tos = record { number = refl; start = refl; next = refl; few = omega arith; inside = omega arith }
-placed EtherType = record { number = refl; start = refl; next = refl; few = omega arith; inside = omega arith }
-placed SrcIp6 = record { number = refl; start = refl; next = refl; few = omega arith; inside = omega arith }
-placed DstIp6 = record { number = refl; start = refl; next = refl; few = omega arith; inside = omega arith }
-
-filter_steps : (pattern : Pattern) → IsFilter pattern → AreSteps with_term (Some pattern.value) pattern.mask (first_terms pattern) 0 fields
-filter_steps pattern filter =
-    let step : (field : Field) → IsStep with_term (Some pattern.value) pattern.mask (first_terms pattern (field_number field)) (first_terms pattern (suc (field_number field))) field =
-    λ field. filter_step pattern filter field (field_number field) (placed field) in (
-      step SrcIp,
-      (
-        step DstIp,
-        (
-          step SrcPort,
-          (
-            step DstPort,
-            (
-              step Proto,
-              (
-                step Tos,
-                (
-                  step EtherType,
-                  (
-                    step SrcIp6,
-                    (step DstIp6, tt),
-                  ),
-                ),
-              ),
-            ),
-          ),
-        ),
-      ),
-    )
 
 pub reads_all : (pattern : Pattern) → IsFilter pattern → with_items with_term 0 no_terms (item_texts (Some pattern.value) pattern.mask fields) ≡ Ok pattern
 reads_all pattern filter =
@@ -175,7 +128,7 @@ reads_all pattern filter =
     let none : first_terms pattern 0 ≡ no_terms = λ i. record { value = none_value i; mask = none_mask i } in
     let all : first_terms pattern 9 ≡ pattern = λ i. record { value = all_value i; mask = all_mask i } in
     subst (λ found. with_items with_term 0 found (item_texts (Some pattern.value) pattern.mask fields) ≡ Ok pattern) none
-    (items_again with_term (Some pattern.value) pattern.mask (first_terms pattern) 0 fields (filter_steps pattern filter) 0 ∙ ap (λ found. Ok found) all)
+    (items_again with_term (Some pattern.value) pattern.mask (first_terms pattern) (filter_step pattern filter) 0 fields refl 0 ∙ ap (λ found. Ok found) all)
 
 -- ---- the commas part the items
 
@@ -194,26 +147,25 @@ term_plain pattern filter field some =
     name_plain field (58 ∷ (value_text field value ++ prefix_text field n))
     (list_all-append is_plain (value_text field value) (prefix_text field n) ∙ rw (first, second) refl)
 
+joined_first : (text rest : List ℕ) (items : List (List ℕ)) → 0 < length text
+    → get_or (join_with_byte 44 ((text ++ rest) ∷ items)) 0 0 ≡ get_or text 0 0
+joined_first [] rest items some = absurd (omega arith)
+joined_first (c ∷ text) rest [] some = refl
+joined_first (c ∷ text) rest (item ∷ items) some = refl
+
+-- no name begins as the word `all`
 first_not_all : (field : Field) (rest : List ℕ) (items : List (List ℕ))
     → bytes_eq (join_with_byte 44 ((name_of field ++ rest) ∷ items)) (codes "all") ≡ false
-first_not_all SrcIp rest [] = refl
-first_not_all DstIp rest [] = refl
-first_not_all SrcPort rest [] = refl
-first_not_all DstPort rest [] = refl
-first_not_all Proto rest [] = refl
-first_not_all Tos rest [] = refl
-first_not_all EtherType rest [] = refl
-first_not_all SrcIp6 rest [] = refl
-first_not_all DstIp6 rest [] = refl
-first_not_all SrcIp rest (item ∷ items) = refl
-first_not_all DstIp rest (item ∷ items) = refl
-first_not_all SrcPort rest (item ∷ items) = refl
-first_not_all DstPort rest (item ∷ items) = refl
-first_not_all Proto rest (item ∷ items) = refl
-first_not_all Tos rest (item ∷ items) = refl
-first_not_all EtherType rest (item ∷ items) = refl
-first_not_all SrcIp6 rest (item ∷ items) = refl
-first_not_all DstIp6 rest (item ∷ items) = refl
+first_not_all field rest items =
+    false_from_ne_true (bytes_eq (join_with_byte 44 ((name_of field ++ rest) ∷ items)) (codes "all"))
+    (λ t.
+    let same : join_with_byte 44 ((name_of field ++ rest) ∷ items) ≡ codes "all" =
+    (bytes_eq-Decides (join_with_byte 44 ((name_of field ++ rest) ∷ items)) (codes "all")).0 t in
+    let some : 0 < length (name_of field) = each_within (λ field. 1) (λ field. length (name_of field)) refl field in
+    let first : 97 ≡ get_or (name_of field) 0 0 =
+    ap (λ text. get_or text 0 0) (sym same) ∙ joined_first (name_of field) rest items some in
+    let other : 98 ≤ get_or (name_of field) 0 0 = each_within (λ field. 98) (λ field. get_or (name_of field) 0 0) refl field in
+    omega arith)
 
 -- items of fields are not the word `all`
 pub not_all : (values : Option (List ℕ)) (lengths : List ℕ) (fields : List Field) → bytes_eq (join_with_byte 44 (item_texts values lengths fields)) (codes "all") ≡ false

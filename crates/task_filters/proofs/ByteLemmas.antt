@@ -7,8 +7,11 @@ use Rattle.std.proofs.lemmas.Bool.Decides.{nat_tests}
 use Rattle.std.proofs.lemmas.List.{get_or_default, length-take, length-drop}
 use Rattle.std.proofs.lemmas.List.Folds.{list_all-append}
 use Rattle.std.proofs.lemmas.Nat.{and_le_r}
+use Rattle.std.specs.Str.{bytes_eq}
+use Rattle.std.proofs.lemmas.Slice.Eq.{bytes_eq-Decides}
 use Rattle.key_mask.specs.declared.fields.Field.{Field}
 use Rattle.key_mask.specs.declared.fields.Field.TheVariants.{SrcIp, DstIp, SrcPort, DstPort, Proto, Tos, EtherType, SrcIp6, DstIp6}
+use Rattle.key_mask.proofs.FieldLemmas.{each_equal, each_field, each_within}
 use Rattle.key_mask.specs.Bytes.{bytewise, and_bytes}
 use Rattle.key_mask.specs.Fields.{fields, field_number, size_of, start_of, width_of}
 use Rattle.key_mask.specs.Masks.{field_bytes, mask_bytes_of, prefix_byte, prefix_bytes}
@@ -84,16 +87,8 @@ take_small (suc k) [] small i = omega arith
 take_small (suc k) (x ∷ xs) small zero = small 0
 take_small (suc k) (x ∷ xs) small (suc i) = take_small k xs (λ i. small (suc i)) i
 
-inside : (field : Field) → start_of field + size_of field ≤ 48
-inside SrcIp = omega arith
-inside DstIp = omega arith
-inside SrcPort = omega arith
-inside DstPort = omega arith
-inside Proto = omega arith
-inside Tos = omega arith
-inside EtherType = omega arith
-inside SrcIp6 = omega arith
-inside DstIp6 = omega arith
+pub inside : (field : Field) → start_of field + size_of field ≤ 48
+inside = each_within (λ field. start_of field + size_of field) (λ field. 48) refl
 
 pub length-bytes_at : (bytes : List ℕ) (field : Field) → length bytes ≡ 48 → length (bytes_at bytes field) ≡ size_of field
 length-bytes_at bytes field long = simp (length-take, length-drop) (omega (arith, inside field, long))
@@ -104,15 +99,7 @@ field_small bytes field small =
     (take_small (start_of field + size_of field - start_of field) (drop (start_of field) bytes) (drop_small (start_of field) bytes small))
 
 pub widths : (field : Field) → 256 ^ size_of field ≡ 2 ^ width_of field
-widths SrcIp = refl
-widths DstIp = refl
-widths SrcPort = refl
-widths DstPort = refl
-widths Proto = refl
-widths Tos = refl
-widths EtherType = refl
-widths SrcIp6 = refl
-widths DstIp6 = refl
+widths = each_equal (λ field. 256 ^ size_of field) (λ field. 2 ^ width_of field) refl
 
 pub value_fits : (bytes : List ℕ) (field : Field) → length bytes ≡ 48 → ((i : ℕ) → get_or bytes i 0 < 256) → value_at bytes field < 2 ^ width_of field
 unfolding value_at
@@ -165,15 +152,9 @@ field_kept pattern kept field =
     ∙ ap (λ bytes. bytes_at bytes field) kept
 
 no_prefix : (field : Field) → prefix_bytes 0 (size_of field) ≡ replicate {A = ℕ} (size_of field) 0
-no_prefix SrcIp = refl
-no_prefix DstIp = refl
-no_prefix SrcPort = refl
-no_prefix DstPort = refl
-no_prefix Proto = refl
-no_prefix Tos = refl
-no_prefix EtherType = refl
-no_prefix SrcIp6 = refl
-no_prefix DstIp6 = refl
+no_prefix field =
+    (bytes_eq-Decides (prefix_bytes 0 (size_of field)) (replicate {A = ℕ} (size_of field) 0)).0
+    (each_field (λ field. bytes_eq (prefix_bytes 0 (size_of field)) (replicate {A = ℕ} (size_of field) 0)) refl field)
 
 pub and_zeros : (xs : List ℕ) (k : ℕ) → length xs ≡ k → and_bytes xs (replicate {A = ℕ} k 0) ≡ replicate {A = ℕ} k 0
 and_zeros [] zero e = refl

@@ -1,18 +1,19 @@
 -- What is printed of a filter is canonical, and no other canonical text is read as that filter.
-use Rattle.std.proofs.Common.{◌≡◌, ◌≢◌, ℕ, zero, suc, ◌+◌, ◌-◌, ◌^◌, ◌<◌, ◌≤◌, ◌==◌, ◌&&◌, ◌||◌, Bool, true, false, not, nat_le, List, [], ◌∷◌, ◌++◌, length, codes, take, drop, slice_index, slice_set, get_or, Option, None, Some, ok_or, Result, Ok, Err, refl, ap, sym, subst, ◌∙◌, arith, length-append, ⊎_elim, ◌⊎◌, inl, inr, eq-eqb}
+use Rattle.std.proofs.Common.{◌≡◌, ◌≢◌, ℕ, ◌+◌, ◌-◌, ◌^◌, ◌<◌, ◌≤◌, ◌==◌, ◌&&◌, ◌||◌, Bool, true, false, not, nat_le, List, [], ◌∷◌, ◌++◌, length, codes, take, drop, slice_index, slice_set, get_or, Option, None, Some, ok_or, Result, Ok, Err, refl, ap, sym, subst, ◌∙◌, arith, length-append, ⊎_elim, ◌⊎◌, inl, inr}
 use Rattle.std.specs.Fmt.{decimal}
 use Rattle.std.specs.Int.{bytes_high_first}
 use Rattle.std.specs.List.{join_with_byte, list_all}
 use Rattle.std.specs.Str.{bytes_eq}
-use Rattle.std.proofs.lemmas.Bool.{and_parts, cases_Bool, cases_eq, false≢true, ne_eqb}
+use Rattle.std.proofs.lemmas.Bool.{and_parts, cases_Bool, false≢true, ne_eqb}
 use Rattle.std.proofs.lemmas.Bool.Decides.{nat_tests}
-use Rattle.std.proofs.lemmas.List.{drop-drop, get_or-set_other, get_or-set_same, length-drop, length-set, length-take}
+use Rattle.std.proofs.lemmas.List.{drop-drop, drop-take, get_or-set_other, get_or-set_same, length-drop, length-set, length-take}
 use Rattle.std.proofs.lemmas.List.Splits.{join_with_byte-slice_split}
+use borrow.Rule.Slice.PartMut.{put_mid}
+use Rattle.std.proofs.lemmas.Slice.{between-put_mid, drop-put_mid, take-put_mid_below}
 use Rattle.std.proofs.lemmas.Slice.Eq.{bytes_eq-Decides}
-use Rattle.texts.specs.Cuts.{front, back, parts}
-use Rattle.texts.proofs.CutLemmas.{parts_behind, parts_first}
+use Rattle.texts.specs.Cuts.{front, back, parts, tail_of}
+use Rattle.texts.proofs.CutLemmas.{joined, parts_behind, parts_first}
 use Rattle.key_mask.specs.declared.fields.Field.{Field}
-use Rattle.key_mask.specs.declared.fields.Field.TheVariants.{SrcIp}
 use Rattle.key_mask.specs.declared.items.FieldKind.{FieldKind}
 use Rattle.key_mask.specs.declared.items.FieldKind.TheVariants.{UnknownField, BadPrefix, BadValue}
 use Rattle.key_mask.specs.declared.items.FieldFault.{FieldFault}
@@ -26,7 +27,7 @@ use Rattle.key_mask.proofs.ItemLemmas.{fresh_bind, ok_bind, place_bind}
 use Rattle.key_mask.proofs.MaskLemmas.{none_stands}
 use Rattle.key_mask.proofs.NumberLemmas.{digit_pass}
 use Rattle.key_mask.proofs.OrderLemmas.{IsAdded, IsSpelled, item_at, items_at, named_is, only_items, printed_in_order}
-use Rattle.key_mask.proofs.PartLemmas.{at_number, number_below}
+use Rattle.key_mask.proofs.FieldLemmas.{each_field, number_below}
 use Rattle.key_mask.proofs.PrefixLemmas.{prefix_again, prefix_canonical, prefix_some}
 use Rattle.key_mask.proofs.PrintLemmas.{cut_slash, item_joined, items_plain, name_found, parts_joined}
 use Rattle.key_mask.proofs.SpellingLemmas.{value_canonical}
@@ -40,7 +41,7 @@ use Rattle.task_filters.specs.Laws.{OnlyFilter}
 use Rattle.task_filters.specs.Printing.{filter_text}
 use Rattle.task_filters.specs.Terms.{is_canonical_filter, is_canonical_rest, is_colon, is_cut, is_filter_item, kept_terms, no_terms, slash_behind, terms_in, value_behind, with_both, with_term}
 use Rattle.task_filters.proofs.AgainLemmas.{cut_colon, not_all, reads_all, some_terms, term_plain, text_empty, text_items}
-use Rattle.task_filters.proofs.ByteLemmas.{bytes_at-and_bytes, field_kept, field_small, length-bytes_at, mask_at, value_fits}
+use Rattle.task_filters.proofs.ByteLemmas.{bytes_at-and_bytes, field_kept, field_small, inside, length-bytes_at, mask_at, value_fits}
 
 -- ---- what is printed is canonical
 
@@ -88,55 +89,12 @@ filter_canonical pattern filter =
 
 -- ---- a value put in a vector
 
-take_before : (xs rest : List ℕ) (s m : ℕ) → m ≤ s → s ≤ length xs → take m (take s xs ++ rest) ≡ take m xs
-take_before xs rest s zero h fits = refl
-take_before xs rest zero (suc m) h fits = absurd (omega arith)
-take_before [] rest (suc s) (suc m) h fits = absurd (omega arith)
-take_before (x ∷ xs) rest (suc s) (suc m) h fits = ap (λ ys. x ∷ ys) (take_before xs rest s m (omega arith) (omega arith))
-
-before : (xs rest : List ℕ) (s a m : ℕ) → a + m ≤ s → s ≤ length xs → take m (drop a (take s xs ++ rest)) ≡ take m (drop a xs)
-before xs rest s zero m h fits = take_before xs rest s m (omega arith) fits
-before xs rest zero (suc a) m h fits = absurd (omega arith)
-before [] rest (suc s) (suc a) m h fits = absurd (omega arith)
-before (x ∷ xs) rest (suc s) (suc a) m h fits = before xs rest s a m (omega arith) (omega arith)
-
-drop_past : (ys zs : List ℕ) (n a : ℕ) → length ys ≡ n → drop (n + a) (ys ++ zs) ≡ drop a zs
-drop_past [] zs zero a e = let sum : 0 + a ≡ a = omega arith in rw sum refl
-drop_past [] zs (suc n) a e = absurd (omega arith)
-drop_past (y ∷ ys) zs zero a e = absurd (omega arith)
-drop_past (y ∷ ys) zs (suc n) a e = let sum : suc n + a ≡ suc (n + a) = omega arith in rw sum (drop_past ys zs n a (omega arith))
-
-behind : (xs ys : List ℕ) (s n a : ℕ) → length ys ≡ n → s ≤ length xs → drop (s + n + a) (take s xs ++ (ys ++ drop (s + n) xs)) ≡ drop (s + n + a) xs
-behind xs ys zero n a e fits =
-    let one : 0 + n ≡ n = omega arith in
-    let two : 0 + n + a ≡ n + a = omega arith in
-    rw (two, one, drop_past ys (drop n xs) n a e, drop-drop) refl
-behind [] ys (suc s) n a e fits = absurd (omega arith)
-behind (x ∷ xs) ys (suc s) n a e fits =
-    let one : suc s + n ≡ suc (s + n) = omega arith in
-    let two : suc s + n + a ≡ suc (s + n + a) = omega arith in
-    rw (two, one) (behind xs ys s n a e (omega arith))
-
-take_here : (ys zs : List ℕ) (n : ℕ) → length ys ≡ n → take n (ys ++ zs) ≡ ys
-take_here [] zs zero e = refl
-take_here [] zs (suc n) e = absurd (omega arith)
-take_here (y ∷ ys) zs zero e = absurd (omega arith)
-take_here (y ∷ ys) zs (suc n) e = ap (λ xs. y ∷ xs) (take_here ys zs n (omega arith))
-
-here : (xs ys zs : List ℕ) (s n : ℕ) → length ys ≡ n → s ≤ length xs → take n (drop s (take s xs ++ (ys ++ zs))) ≡ ys
-here xs ys zs zero n e fits = take_here ys zs n e
-here [] ys zs (suc s) n e fits = absurd (omega arith)
-here (x ∷ xs) ys zs (suc s) n e fits = here xs ys zs s n e (omega arith)
+as_put : (bytes : List ℕ) (field : Field) (value : ℕ)
+    → with_value bytes field value ≡ put_mid (start_of field) (size_of field) bytes (bytes_high_first (size_of field) value)
+unfolding with_value
+as_put bytes field value = rw drop-drop refl
 
 -- ---- fields lie apart
-
-all_at : (p : Field → Bool) (xs : List Field) (k : ℕ) (d : Field) → list_all p xs ≡ true → k < length xs → p (get_or xs k d) ≡ true
-all_at p [] k d e h = absurd (omega arith)
-all_at p (x ∷ xs) zero d e h = (and_parts (p x) (list_all p xs) e).0
-all_at p (x ∷ xs) (suc k) d e h = all_at p xs k d (and_parts (p x) (list_all p xs) e).1 (omega arith)
-
-each_field : (p : Field → Bool) → list_all p fields ≡ true → (field : Field) → p field ≡ true
-each_field p e field = subst (λ f. p f ≡ true) (at_number field) (all_at p fields (field_number field) SrcIp e (omega (arith, number_below field)))
 
 abbrev is_apart : Field → Field → Bool
 is_apart one other = field_number one == field_number other
@@ -145,58 +103,41 @@ is_apart one other = field_number one == field_number other
 apart : (one other : Field) → is_apart one other ≡ true
 apart one other = each_field (is_apart one) (each_field (λ f. list_all (is_apart f) fields) refl one) other
 
-inside_48 : (field : Field) → start_of field + size_of field ≤ 48
-inside_48 field =
-    let t : nat_le (start_of field + size_of field) 48 ≡ true = each_field (λ f. nat_le (start_of f + size_of f) 48) refl field in
-    fits (start_of field + size_of field) t where
-      fits : (n : ℕ) → nat_le n 48 ≡ true → n ≤ 48
-      fits n t = grind (arith, nat_tests, t)
-
 length-with_value : (bytes : List ℕ) (field : Field) (value : ℕ) → length bytes ≡ 48 → length (with_value bytes field value) ≡ 48
 unfolding with_value
 length-with_value bytes field value long =
-    omega (
-      arith,
-      inside_48 field,
-      long,
-      length-append (take (start_of field) bytes) (bytes_high_first (size_of field) value ++ drop (start_of field + size_of field) bytes),
-      length-append (bytes_high_first (size_of field) value) (drop (start_of field + size_of field) bytes),
-      length-bytes_high_first (size_of field) value,
-      length-take (start_of field) bytes,
-      length-drop (start_of field + size_of field) bytes,
-    )
+    simp (length-append, length-bytes_high_first (size_of field) value, length-take, length-drop) (omega (arith, inside field, long))
 
 value_here : (bytes : List ℕ) (field : Field) (value : ℕ) → length bytes ≡ 48 → bytes_at (with_value bytes field value) field ≡ bytes_high_first (size_of field) value
-unfolding with_value
 value_here bytes field value long =
-    let count : start_of field + size_of field - start_of field ≡ size_of field = omega arith in
-    rw count
-    (here bytes (bytes_high_first (size_of field) value) (drop (start_of field + size_of field) bytes) (start_of field) (size_of field)
-    (length-bytes_high_first (size_of field) value) (omega (arith, inside_48 field, long)))
+    ap (λ all. bytes_at all field) (as_put bytes field value)
+    ∙ between-put_mid (start_of field) (size_of field) bytes (bytes_high_first (size_of field) value) (start_of field + size_of field)
+    (omega (arith, inside field, long)) (omega (arith, length-bytes_high_first (size_of field) value))
 
 others_stay : (bytes : List ℕ) (one : Field) (value : ℕ) (other : Field) → length bytes ≡ 48 → field_number other ≢ field_number one
     → bytes_at (with_value bytes one value) other ≡ bytes_at bytes other
-unfolding with_value
 others_stay bytes one value other long ne =
-    let t : is_apart one other ≡ true = apart one other in
     let no : (field_number one == field_number other) ≡ false = ne_eqb (field_number one) (field_number other) (λ e. ne (sym e)) in
-    let sides : (nat_le (start_of one + size_of one) (start_of other) || nat_le (start_of other + size_of other) (start_of one)) ≡ true = rw no at t in
+    let sides : (nat_le (start_of one + size_of one) (start_of other) || nat_le (start_of other + size_of other) (start_of one)) ≡ true = rw no at (apart one other) in
     let new : List ℕ = bytes_high_first (size_of one) value in
-    let count : start_of other + size_of other - start_of other ≡ size_of other = omega arith in
-    ⊎_elim
+    let new_long : length new ≡ size_of one = length-bytes_high_first (size_of one) value in
+    let fits : start_of one ≤ length bytes = omega (arith, inside one, long) in
+    let start : ℕ = start_of other in
+    let count : ℕ = start_of other + size_of other - start_of other in
+    ap (λ all. bytes_at all other) (as_put bytes one value)
+    ∙ ⊎_elim
+    (λ (high : start_of one + size_of one ≤ start).
+    ap (take count) (drop-put_mid (start_of one) (size_of one) bytes new start high fits new_long))
     (λ (low : start_of other + size_of other ≤ start_of one).
-    rw count (before bytes (new ++ drop (start_of one + size_of one) bytes) (start_of one) (start_of other) (size_of other) low (omega (arith, inside_48 one, long))))
-    (λ (high : start_of one + size_of one ≤ start_of other).
-    let gap : start_of one + size_of one + (start_of other - (start_of one + size_of one)) ≡ start_of other = omega arith in
-    ap (take (start_of other + size_of other - start_of other))
-    (subst (λ n. drop n (take (start_of one) bytes ++ (new ++ drop (start_of one + size_of one) bytes)) ≡ drop n bytes) gap
-    (behind bytes new (start_of one) (size_of one) (start_of other - (start_of one + size_of one)) (length-bytes_high_first (size_of one) value) (omega (arith, inside_48 one, long)))))
-    (either (start_of one + size_of one) (start_of other) (start_of other + size_of other) (start_of one) sides) where
-      either : (a b c d : ℕ) → (nat_le a b || nat_le c d) ≡ true → (c ≤ d) ⊎ (a ≤ b)
+    sym (drop-take start count (put_mid (start_of one) (size_of one) bytes new))
+    ∙ ap (drop start) (take-put_mid_below (start_of one) (size_of one) bytes new (start + count) (omega arith) fits)
+    ∙ drop-take start count bytes)
+    (either (start_of one + size_of one) start (start_of other + size_of other) (start_of one) sides) where
+      either : (a b c d : ℕ) → (nat_le a b || nat_le c d) ≡ true → (a ≤ b) ⊎ (c ≤ d)
       either a b c d t =
           ⊎_elim
-          (λ (e : nat_le a b ≡ true). inr (grind (arith, nat_tests, e)))
-          (λ (e : nat_le a b ≡ false). let rest : nat_le c d ≡ true = rw e at t in inl (grind (arith, nat_tests, rest)))
+          (λ (e : nat_le a b ≡ true). inl (grind (arith, nat_tests, e)))
+          (λ (e : nat_le a b ≡ false). let rest : nat_le c d ≡ true = rw e at t in inr (grind (arith, nat_tests, rest)))
           (cases_Bool (nat_le a b))
 
 -- ---- an item that is read
@@ -225,16 +166,7 @@ item_is_read found item next h =
     record { field = one.0; prefix = three.0; value = four.0; named = one.1; free = two.0; prefix_is = three.1; value_is = four.1; next_is = cc four.2 }
 
 colon_joined : (item rest : List ℕ) → back is_colon item ≡ Some rest → item ≡ front is_colon item ++ 58 ∷ rest
-colon_joined [] rest h = absurd (let wrong : ⊥ = cc in wrong)
-colon_joined (x ∷ xs) rest h =
-    ⊎_elim
-    (λ (e : x ≡ 58).
-    let t : (x == 58) ≡ true = eq-eqb x 58 e in
-    let found : Some xs ≡ Some rest = rw t at h in
-    let same : xs ≡ rest = cc found in
-    rw t (λ i. e i ∷ same i))
-    (λ (ne : x ≢ 58). let t : (x == 58) ≡ false = ne_eqb x 58 ne in rw t (ap (λ ys. x ∷ ys) (colon_joined xs rest (rw t at h))))
-    (cases_eq x 58)
+colon_joined item rest h = joined 58 item ∙ ap (λ behind. front is_colon item ++ tail_of 58 behind) h
 
 -- what a canonical item says
 record IsCanonicalItem (item : List ℕ) (field : Field) (prefix value : ℕ) : Type 0 where

@@ -108,20 +108,15 @@ back_free p (x ∷ xs) e =
       | false ↦ λ e. back_free p xs e
     ] e
 
-pub front_before : (p : ℕ → Bool) (xs : List ℕ) (y : ℕ) (ys : List ℕ) → free_of p xs ≡ true → p y ≡ true → front p (xs ++ y ∷ ys) ≡ xs
-front_before p [] y ys e t = rw t refl
-front_before p (x ∷ xs) y ys e t =
-    elim (p x) as (λ b. (not b && free_of p xs) ≡ true → cond b [] (x ∷ front p (xs ++ y ∷ ys)) ≡ x ∷ xs) [
+-- in front of the first that passes, and behind it
+pub cut : (p : ℕ → Bool) (xs : List ℕ) (y : ℕ) (ys : List ℕ) → free_of p xs ≡ true → p y ≡ true
+    → (front p (xs ++ y ∷ ys) ≡ xs) × (back p (xs ++ y ∷ ys) ≡ Some ys)
+cut p [] y ys e t = (rw t refl, rw t refl)
+cut p (x ∷ xs) y ys e t =
+    elim (p x) as (λ b. (not b && free_of p xs) ≡ true
+    → (cond b [] (x ∷ front p (xs ++ y ∷ ys)) ≡ x ∷ xs) × (cond b (Some (xs ++ y ∷ ys)) (back p (xs ++ y ∷ ys)) ≡ Some ys)) [
       | true ↦ λ e. absurd (false≢true e)
-      | false ↦ λ e. ap (λ zs. x ∷ zs) (front_before p xs y ys e t)
-    ] e
-
-pub back_behind : (p : ℕ → Bool) (xs : List ℕ) (y : ℕ) (ys : List ℕ) → free_of p xs ≡ true → p y ≡ true → back p (xs ++ y ∷ ys) ≡ Some ys
-back_behind p [] y ys e t = rw t refl
-back_behind p (x ∷ xs) y ys e t =
-    elim (p x) as (λ b. (not b && free_of p xs) ≡ true → cond b (Some (xs ++ y ∷ ys)) (back p (xs ++ y ∷ ys)) ≡ Some ys) [
-      | true ↦ λ e. absurd (false≢true e)
-      | false ↦ λ e. back_behind p xs y ys e t
+      | false ↦ λ e. let rest = cut p xs y ys e t in (ap (λ zs. x ∷ zs) rest.0, rest.1)
     ] e
 
 pub split_last : (p : ℕ → Bool) (xs : List ℕ) → free_of p xs ≡ true → slice_split p xs ≡ xs ∷ []
