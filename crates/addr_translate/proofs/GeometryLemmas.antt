@@ -24,11 +24,6 @@ some_arrays geometry good =
     let first : IsGroup (get_or geometry.groups 0 no_group) = All-get_or IsGroup geometry.groups 0 no_group good.some_groups good.each in
     omega (arith, first.some_cmus, get_or-le-sum_by cmus geometry.groups 0 no_group good.some_groups)
 
--- a group's arrays are among all
-pub group_room : (geometry : Geometry) (n : ℕ) → n < length geometry.groups
-    → arrays_before geometry n + (group_in geometry n).cmus ≤ array_count geometry
-group_room geometry n within = sum_by_more_le cmus geometry.groups n no_group within
-
 -- ---- the group of an array
 
 -- it begins at or before the array, and ends behind it

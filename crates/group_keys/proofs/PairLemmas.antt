@@ -32,9 +32,6 @@ found_cons p x xs b e = ap (λ t. cond t (Some x) (find p xs)) e
 pub search_on : (p : ℕ → Bool) (k n : ℕ) → k < n → p k ≡ false → find p (numbers_from k n) ≡ find p (numbers_from (k + 1) n)
 search_on p k n h e = ap (find p) (numbers_on k n h) ∙ found_cons p k (numbers_from (k + 1) n) false e
 
-pub search_ends : (p : ℕ → Bool) (k n : ℕ) → k < n → p k ≡ true → find p (numbers_from k n) ≡ Some k
-search_ends p k n h e = ap (find p) (numbers_on k n h) ∙ found_cons p k (numbers_from (k + 1) n) true e
-
 -- ---- pairs from a first number on
 
 found_mapped : {X Y : Type 0} (p : Y → Bool) (f : X → Y) (xs : List X) → find p (map f xs) ≡ option_map f (find (λ x. p (f x)) xs)

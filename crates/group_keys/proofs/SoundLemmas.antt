@@ -112,9 +112,3 @@ less_sound units unit within h = by (unit_at units unit) (h.each unit) (λ other
   by (Some old) used apart = left old used apart (nat_le old.uses 1) refl
 
 -- ---- no unit is in use at first
-
-pub first_sound : (units : List (Option UsedUnit)) → ((unit : ℕ) → unit_at units unit ≡ None) → AreSound units
-first_sound units free = record {
-  each = λ unit. subst (λ (u : Option UsedUnit). IfSome u IsUsed) (sym (free unit)) tt;
-  differ = λ one two ne. subst (λ (u : Option UsedUnit). DifferInMask u (unit_at units two)) (sym (free one)) tt;
-}

@@ -86,10 +86,6 @@ free_is_none : (unit : Option UsedUnit) → is_free unit ≡ true → unit ≡ N
 free_is_none None e = refl
 free_is_none (Some used) e = cc
 
-is_served : (mask : List ℕ) (unit : Option UsedUnit) → IsSome (served mask unit)
-is_served mask None = refl
-is_served mask (Some used) = refl
-
 -- the others are as they were
 used_there : (units : List (Option UsedUnit)) (unit other : ℕ) (mask : List ℕ) → other ≢ unit
     → IsSome (unit_at units other) → IsSome (unit_at (served_at mask units unit) other)
@@ -148,10 +144,6 @@ some_uses : (mask : List ℕ) (unit : Option UsedUnit) → 1 ≤ uses_of (served
 some_uses mask None = omega arith
 some_uses mask (Some used) = omega arith
 
-more_uses : (mask : List ℕ) (unit : Option UsedUnit) → uses_of unit ≤ uses_of (served mask unit)
-more_uses mask None = omega arith
-more_uses mask (Some used) = omega arith
-
 uses_here : (units : List (Option UsedUnit)) (unit : ℕ) (mask : List ℕ) → unit < length units
     → 1 ≤ uses_of (unit_at (served_at mask units unit) unit)
 uses_here units unit mask h =
@@ -197,21 +189,11 @@ used_exists units unit h = ⊎_elim
     (λ (past : length units ≤ unit). let none : uses_of (unit_at units unit) ≡ 0 = ap uses_of (get_or_past units unit None past) in absurd (omega arith))
     (cases_lt unit (length units))
 
-times_alone_some : (unit : ℕ) → 1 ≤ times_in (Single unit) unit
-times_alone_some unit = rw (eq-eqb unit unit refl) (omega arith)
-
 times_first_some : (one two : ℕ) → 1 ≤ times_in (Pair one two) one
 times_first_some one two = rw (eq-eqb one one refl) (omega arith)
 
 times_second_some : (one two : ℕ) → 1 ≤ times_in (Pair one two) two
 times_second_some one two = rw (eq-eqb two two refl) (omega arith)
-
-pub alone_exists : (units : List (Option UsedUnit)) (unit : ℕ) → AreInUse units (Single unit) → unit < length units
-alone_exists units unit h = used_exists units unit (omega (
-  arith,
-  times_alone_some unit,
-  All-head (λ (n : ℕ). times_in (Single unit) n ≤ uses_of (unit_at units n)) unit [] h,
-))
 
 pub first_exists : (units : List (Option UsedUnit)) (one two : ℕ) → AreInUse units (Pair one two) → one < length units
 first_exists units one two h = used_exists units one (omega (

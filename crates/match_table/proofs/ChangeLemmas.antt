@@ -106,9 +106,6 @@ pairs_after : {X : Type 0} (R : X → X → Type 0) (front : List X) (x : X) (ba
 pairs_after R [] x back pairs = pairs_first R x back pairs
 pairs_after R (y ∷ front) x back pairs = pairs_after R front x back (pairs_rest R y (front ++ x ∷ back) pairs)
 
-base_is : (one : Entry) (base : ℕ) → has_base base one ≡ true → one.region.base ≡ base
-base_is one base e = grind (arith, nat_tests)
-
 base_not : (one two : Entry) (base : ℕ) → has_base base one ≡ true → one.region.base ≢ two.region.base → has_base base two ≡ false
 base_not one two base e other = grind (arith, nat_tests)
 

@@ -268,9 +268,6 @@ ends_step same at xs d within =
     ap (ends_from same at) (drop-cons xs at d within)
     ∙ ap (λ n. cond (goes_on same (get_or xs at d) (drop n xs)) (ends_from same (at + 1) (drop n xs)) ((at + 1) ∷ ends_from same (at + 1) (drop n xs))) e
 
-pub ends_none : {X : Type 0} (same : X → X → Bool) (at : ℕ) (xs : List X) → length xs ≤ at → ends_from same at (drop at xs) ≡ []
-ends_none same at xs past = ap (ends_from same at) (drop_of_length-le xs past)
-
 pub ends_on : {X : Type 0} (same : X → X → Bool) (done whole : List ℕ) (at : ℕ) (xs : List X) (d : X) → at < length xs
     → goes_on same (get_or xs at d) (drop (at + 1) xs) ≡ true → done ++ ends_from same at (drop at xs) ≡ whole
     → done ++ ends_from same (at + 1) (drop (at + 1) xs) ≡ whole

@@ -288,31 +288,3 @@ contains_put block (other ∷ others) = by (contains_put block others) (nat_le b
         → Contains (cond b (block ∷ other ∷ others) (other ∷ put_by_base block others)) block
     by rest true = contains_first block (other ∷ others)
     by rest false = cons_contains other block (put_by_base block others) rest
-
-pub contains_put_other : (block x : Block) (blocks : List Block) → Contains blocks x
-    → Contains (put_by_base block blocks) x
-contains_put_other block x [] h = absurd (contains_none x h)
-contains_put_other block x (other ∷ others) h =
-    by (λ k. contains_put_other block x others k) (nat_le block.base other.base)
-  where
-    by : (Contains others x → Contains (put_by_base block others) x) → (b : Bool)
-        → Contains (cond b (block ∷ other ∷ others) (other ∷ put_by_base block others)) x
-    by rest true = cons_contains block x (other ∷ others) h
-    by rest false =
-        ⊎_elim
-        (λ (e : other ≡ x). let P : Block
-        → Type 0 = λ y. Contains (other ∷ put_by_base block others) y in
-        subst P e (contains_first other (put_by_base block others)))
-        (λ (k : Contains others x). cons_contains other x (put_by_base block others) (rest k))
-        (contains_cons other x others h)
-
--- by base, as `PoolState` of the records is
-pub contains_by_base : (x : Block) (blocks : List Block) → Contains blocks x → Contains (by_base blocks) x
-contains_by_base x [] h = h
-contains_by_base x (other ∷ others) h =
-    ⊎_elim
-    (λ (e : other ≡ x). let P : Block
-    → Type 0 = λ y. Contains (put_by_base other (by_base others)) y in
-    subst P e (contains_put other (by_base others)))
-    (λ (k : Contains others x). contains_put_other other x (by_base others) (contains_by_base x others k))
-    (contains_cons other x others h)
