@@ -3,7 +3,7 @@ from __future__ import annotations
 
 import itertools
 import math
-from typing import Dict, List, Sequence, Tuple
+from typing import Any, Dict, List, Sequence, Tuple
 
 from accuracy_measure import COUNTING, FLAGS, Measured
 
@@ -48,7 +48,7 @@ def ticks_of(sizes: Sequence[int]) -> List[int]:
     return [1 << power for power in range(low, high + 1, step)]
 
 
-def set_error_axis(axes: object, errors: Sequence[float]) -> None:
+def set_error_axis(axes: Any, errors: Sequence[float]) -> None:
     """Logarithmic; where some error is 0, down to the decade of the least other one, with 0 below it."""
     above = [error for error in errors if error > 0]
     if not above:
@@ -62,7 +62,7 @@ def set_error_axis(axes: object, errors: Sequence[float]) -> None:
     axes.set_ylim(bottom=-least / 4, top=max(above) * 2)
 
 
-def draw_panel(axes: object, found: Dict[str, List[Tuple[int, float]]], title: str, measure: str) -> None:
+def draw_panel(axes: Any, found: Dict[str, List[Tuple[int, float]]], title: str, measure: str) -> None:
     sizes = [size for points in found.values() for size, _ in points]
     for mark, (label, points) in zip(MARKS * (1 + len(found) // len(MARKS)), found.items()):
         axes.plot([size for size, _ in points], [error for _, error in points], marker=mark, label=label)

@@ -5,13 +5,13 @@ import os
 import subprocess
 import sys
 import tempfile
-from typing import Iterator, List, NamedTuple, Sequence
+from typing import Any, Dict, Iterator, List, NamedTuple, Sequence
 
 from accuracy_script import Block
 from flymon_output import Card, Dist, Fault, Query, parse
 
 MOST_BYTES = 1048576
-ANSWERS = {"query": Query, "card": Card, "dist": Dist}
+ANSWERS: Dict[str, Any] = {"query": Query, "card": Card, "dist": Dist}
 
 
 class Failed(Exception):
@@ -38,7 +38,7 @@ class Program(NamedTuple):
         told: List[str] = []
         with tempfile.TemporaryFile() as output:
             with subprocess.Popen(words, stdout=output, stderr=subprocess.PIPE, text=True) as running:
-                for line in running.stderr:
+                for line in running.stderr or ():
                     if line.startswith("flymon: "):
                         sys.stderr.write(line)
                     told.append(line.strip())

@@ -9,7 +9,7 @@ from accuracy_script import FIELDS, Task, Value
 try:
     import tomllib
 except ImportError:  # Python before 3.11
-    tomllib = None
+    tomllib = None  # type: ignore[assignment]
 
 WIDTH = 32
 SIDE_SCALING = bytes.fromhex("6d5a56da255b0ec24167253d43a38fb0d0ca2bcbae7b30b477cb2da38030f20c6a42b73bbeac01fa")

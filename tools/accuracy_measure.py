@@ -41,9 +41,12 @@ class Measured:
     broken: List[str] = field(default_factory=list)
 
     @property
+    def absent(self) -> int:
+        return (self.outside or 0) + (self.synthetic or 0)
+
+    @property
     def false_positive_rate(self) -> Optional[float]:
-        asked = (self.outside or 0) + (self.synthetic or 0)
-        return self.false_positives / asked if asked else None
+        return (self.false_positives or 0) / self.absent if self.absent else None
 
     @property
     def error(self) -> Optional[float]:
@@ -74,7 +77,8 @@ class Questions:
 def made_up(counted: Counted, number: int) -> List[Value]:
     """Key values drawn evenly from all that the key has, of which no packet of the capture came."""
     chance = random.Random(1)
-    task, found = counted.task, {}
+    task = counted.task
+    found: Dict[Value, None] = {}
     for _ in range(number * 20):
         if len(found) == number:
             break
@@ -223,8 +227,8 @@ def measure_hll(counted: Counted, answers: Sequence[Block], hashing: Hash) -> Me
                                f" come to zeros {zeros} z {z} raw {raw}")
     measured.corrected = corrected(task.size, zeros, card.raw)
     if distinct:
-        measured.relative = abs(measured.estimate - distinct) / distinct
-        measured.absolute = abs(measured.estimate - distinct)
+        measured.relative = abs(card.raw - distinct) / distinct
+        measured.absolute = abs(card.raw - distinct)
     return measured
 
 

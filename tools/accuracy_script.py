@@ -3,7 +3,7 @@ from __future__ import annotations
 
 import ipaddress
 from dataclasses import dataclass, field, replace
-from typing import Dict, List, NamedTuple, Sequence, Tuple
+from typing import Any, Dict, List, NamedTuple, Sequence, Tuple
 
 from flymon_output import Card, Dist, Done, Fault, Packets, Query
 
@@ -14,7 +14,7 @@ PLACES = {name: place for place, (name, _, _) in enumerate(FIELDS)}
 MOST_PACKETS = 4294967295
 CHANGES = ("add", "resize", "remove", "release")
 Value = Tuple[int, ...]
-Block = NamedTuple  # one of flymon_output
+Block = Any  # one of the tuples of flymon_output
 
 
 class Part(NamedTuple):

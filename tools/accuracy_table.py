@@ -21,7 +21,7 @@ def remark(measured: Measured) -> str:
     if kind == "bloom":
         asked = f"{measured.outside} of the capture's others, {measured.synthetic} made up"
         rate = shown(measured.false_positive_rate, 100, " %")
-        return f"{measured.false_positives} of {measured.outside + measured.synthetic} absent say yes: {rate} ({asked})"
+        return f"{measured.false_positives} of {measured.absent} absent say yes: {rate} ({asked})"
     if kind == "hll":
         return f"estimate {measured.estimate} of {measured.flows}, {measured.corrected} with the correction for few"
     if kind == "mrac":
