@@ -50,7 +50,7 @@ def save(figure, file, form):
 def shorten(picture):
     """The same SVG without comments, indents, names of groups, and digits that nobody sees."""
     picture = re.sub(rb'<!--.*?-->|(?<=<g) id="[^"]*"', b'', picture, flags=re.DOTALL)
-    picture = re.sub(rb'\s*\n\s*', b'\n', picture)
+    picture = re.sub(rb'\s*\n\s*', b'\n', picture).replace(b'DejaVuSans-', b'g')
     return re.sub(rb'^(?:<path d=")?[ML] .*|translate\([^)]*\)| x="[^"]*"',
                   lambda found: re.sub(rb'(\.\d\d)\d+', rb'\1', found.group()), picture, flags=re.MULTILINE)
 

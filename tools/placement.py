@@ -40,7 +40,7 @@ def read_profile(name):
 
 
 def task_colours(blocks):
-    """For each task a colour, and whether tasks before it have it too: by the order in which the run names them first."""
+    """For each task a colour, and whether a task before it has it, so that it gets a tint: by the order in which the run names them first."""
     names = {}
     for block in blocks:
         for name in [task.name for task in block.tasks] if type(block) is output.Show else [getattr(block, 'task', None)]:
@@ -239,10 +239,9 @@ def draw_array(axes, top, lane, scale, colours):
     levels = levels_of(lane.pieces, scale)
     for piece in lane.pieces:
         colour, is_second = colours[piece.task]
-        fill = mix(colour, 'white', 0.55) if piece.is_frozen else colour
-        hatch = '////' if piece.is_frozen else '|||' if is_second else None
+        fill = mix(colour, 'white', 0.55) if piece.is_frozen or is_second else colour
         axes.add_patch(Rectangle((piece.base, top), piece.size, BAR, facecolor=fill, edgecolor='#555555', linewidth=0.7,
-                                 hatch=hatch, clip_on=False))
+                                 hatch='////' if piece.is_frozen else None, clip_on=False))
         label_piece(axes, top, piece, levels[piece], scale)
     axes.text(lane.registers + 0.1 / scale, top + BAR / 2, lane.tail, va='center', fontsize=8, color=SOFT)
     ends = [0] + [piece.base + piece.size for piece in lane.pieces]
