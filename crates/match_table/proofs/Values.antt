@@ -52,7 +52,7 @@ entry_on value mask base = record {
   micro = record { code = Max; first = Weight Ttl; second = Top };
 }
 
--- the networks 11 and 10, the second twice by longer prefixes
+-- the networks 11 and 9, and 10.1 by a longer prefix
 abbrev eleven : Entry
 eleven = entry_on (11 ∷ []) (lengths_of ((SrcIp, 8) ∷ [])) 0
 

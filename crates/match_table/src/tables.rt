@@ -1,9 +1,9 @@
 //! The table of the entries of an array.
 ghost use Rattle.std.specs.Prelude.{◌≡◌, ◌≤◌, ◌<◌, ◌++◌, ◌∷◌, [], true, false, IfOk, IsTrue, ◌↔◌, Some, length, slice_index_or};
-ghost use Rattle.std.specs.List.{AllPairs, filter, find, list_any};
+ghost use Rattle.std.specs.List.{All, AllPairs, Contains, filter, find, list_any};
 ghost use Rattle.std.specs.Option.{option_copied};
 ghost use Rattle.lists.specs.Sorting.{Rising, cut_by};
-ghost use Rattle.match_table.specs.Tables.{EntryTable, StandApart, takes, has_base, admits, last_of_masks, lesser_mask, masks_of, group_of};
+ghost use Rattle.match_table.specs.Tables.{EntryTable, StandApart, takes, has_base, admits, last_of_masks, lesser_mask, mask_of, masks_of, group_of};
 
 use crate::entries::Entry;
 use crate::finds::{find_in, group_in, scan};
@@ -126,6 +126,7 @@ impl Table {
     pub fn mask_count(&self) -> usize
         ensures count { result ≡ length (masks_of self.now.entries) }
         ensures rising { Rising lesser_mask (last_of_masks self.now.entries) }
+        ensures whole { All (λ entry. Contains (masks_of self.now.entries) (mask_of entry)) self.now.entries }
     {
         self.ends.len()
     }

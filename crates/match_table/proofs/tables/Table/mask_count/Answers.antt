@@ -2,6 +2,7 @@ use Rattle.std.proofs.Common.{◌≡◌, subst, length, vec_len, ap, ◌∙◌, 
 use Rattle.lists.specs.Sorting.{Rising}
 use Rattle.match_table.specs.Runs.{lasts}
 use Rattle.match_table.specs.Tables.{EntryTable, masks_of, by_rank, lesser_mask, same_mask}
+use Rattle.match_table.proofs.MaskLemmas.{masks_whole}
 use Rattle.match_table.proofs.OrderLemmas.{rank_rises}
 use Rattle.match_table.proofs.TableLemmas.{mask_count_is, masks_rise}
 use Rattle.match_table.proofs.tables.Table.mask_count.Goals as goal
@@ -17,3 +18,6 @@ pub returns-clause-rising : goal.returns-clause-rising
 returns-clause-rising c =
     subst (λ (r : EntryTable). Rising lesser_mask (lasts same_mask (by_rank r.entries))) c.self.view_is
     (masks_rise (by_rank c.self.inside.list.items) (rank_rises c.self.inside.list.items c.self.invariant.apart))
+
+pub returns-clause-whole : goal.returns-clause-whole
+returns-clause-whole c = masks_whole c.args.self.now.entries
