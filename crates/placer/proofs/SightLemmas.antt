@@ -46,23 +46,6 @@ region_for_found geometry sight bits array region small found =
     (taken_at sight array) bits region small found in
     (is.partition, is.size, is.free)
 
--- an array that is not full has a partition
-pub not_full : (pools : List PoolState) (bits array : ℕ) → is_full pools bits array ≡ false
-    → (region : Block) × (region_in (pool_at pools array).bits (least_bits (pool_at pools array)) (pool_at pools array).taken bits ≡ Some region)
-not_full pools bits array =
-    by (region_in (pool_at pools array).bits (least_bits (pool_at pools array)) (pool_at pools array).taken bits) where
-      by : (o : Option Block) → not (is_some o) ≡ false → (region : Block) × (o ≡ Some region)
-      by None e = absurd (cc)
-      by (Some region) e = (region, refl)
-
-none_passes : {X : Type 0} (p : X → Bool) (xs : List X) → position p xs ≡ None → All (λ x. p x ≡ false) xs
-none_passes p xs none = λ k d within. fails_before_first p xs k d
-    (omega (arith, within, position_none p xs (sym none)))
-
-pub none_full : (pools : List PoolState) (bits : ℕ) (arrays : List ℕ) → first_full pools bits arrays ≡ None
-    → All (λ array. is_full pools bits array ≡ false) arrays
-none_full pools bits arrays none = none_passes (is_full pools bits) arrays none
-
 -- ---- sizes
 
 pub record IsSize (geometry : Geometry) (kind : Kind) (size bits : ℕ) : Type 0 where

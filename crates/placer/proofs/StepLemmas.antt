@@ -17,12 +17,6 @@ use Rattle.placer.specs.Steps.{is_chained, is_there, with_one, judged}
 
 -- ---- the first of each group, with one element more
 
-eqb_flip : (a b : ℕ) → eqb a b ≡ eqb b a
-eqb_flip a b = by (eqb b a) refl where
-  by : (t : Bool) → eqb b a ≡ t → eqb a b ≡ t
-  by true e = eq-eqb a b (sym (eqb-true b a e))
-  by false e = ne_eqb a b (λ same. eqb-false b a e (sym same))
-
 -- an element of another group than z is not lost where z's group is left out
 still_there : {X : Type 0} (group : X → ℕ) (z x : X) → eqb (group x) (group z) ≡ false → (ys : List X)
     → is_there group x (filter (λ y. not (group y == group z)) ys) ≡ is_there group x ys

@@ -32,8 +32,7 @@ use Rattle.switch_model.specs.Records.{Past, Part, Row, UnitMask, Record, Outlin
 use Rattle.switch_model.specs.Sights.{Spot, GroupUse, before_of, all_spots, rules_on, row_uses, uses_by, all_uses, units_on, group_uses}
 use Rattle.switch_model.specs.Soundness.{IsRow, IsTask, GiveKey, Sound}
 use Rattle.switch_model.specs.Packets.{Stand, live_stand, live_stands, frozen_stand, frozen_stands, past_stands, stands_by, all_stands, cells_at, Layout, takes_on, call_of}
-use Rattle.task_filters.specs.Filters.{passes, are_disjoint}
-use Rattle.match_table.specs.Tables.{takes}
+use Rattle.task_filters.specs.Filters.{are_disjoint}
 use Rattle.std.proofs.lemmas.Bool.{eqb-true}
 use Rattle.std.proofs.lemmas.List.Elements.{filter_passes}
 use Rattle.std.proofs.lemmas.List.Kept.{AllPairs-filter}
@@ -160,9 +159,6 @@ any_bound Mrac brought bound = refl
 any_bound Hll brought bound = refl
 any_bound FlagOr brought bound = refl
 any_bound FlagAnd brought bound = refl
-
-none_before : (before : Option ℕ) → before_of SumaxSum before ≡ None → before ≡ None
-none_before before e = e
 
 -- the operation by the entry, under this bound, is the row's
 pub operation_stands : (geometry : Geometry) (hash_key : List ℕ) (rs : List Record) (packet : Packet) (s : Stand) → Sound geometry (outlines rs)
@@ -337,13 +333,6 @@ unfolding key_hash
 task_hash hash_key vector task = refl
 
 -- ---- which entry a packet finds
-
--- a row takes a packet where it stands on the array and its entry takes it
-pub takes_by_entry : (packet : Packet) (array : ℕ) (s : Stand) → takes_on packet array s ≡ (stands_on array s && takes packet.vec (entry_by s))
-takes_by_entry packet array s = by s.live where
-  by : (live : Bool) → (live && (s.array == array && passes s.task.filter packet.vec)) ≡ ((live && s.array == array) && passes s.task.filter packet.vec)
-  by true = refl
-  by false = refl
 
 rules_pairs : (array : ℕ) (spots : List Spot) → AllPairs MatchNone spots → AllPairs (λ (one two : Entry). are_disjoint one.filter two.filter ≡ true) (rules_on spots array)
 rules_pairs array spots pairs =

@@ -1,6 +1,6 @@
 -- A task knows of no other: its sketch part after a history is the one that it has alone.
 use Rattle.std.proofs.Common.{ap₂, ◌≡◌, ◌≢◌, ℕ, Bool, true, false, cond, List, [], ◌∷◌, ◌++◌, length, map, remove, refl, ap, sym, ◌∙◌, subst}
-use Rattle.std.specs.Prelude.{Option, None, Some, Result, Ok, Err, option_map}
+use Rattle.std.specs.Prelude.{None, Some, Result, Ok, Err, option_map}
 use Rattle.std.specs.List.{All, AllPairs, find, fold}
 use Rattle.std.specs.Str.{bytes_eq}
 use Rattle.std.proofs.lemmas.Bool.{false≢true}
@@ -35,9 +35,6 @@ not_same xs ys ne = by (bytes_eq xs ys) refl where
   by false e = refl
 
 -- ---- the part of a name
-
-part_by : List ℕ → Record → List Record → Bool → Option Part
-part_by name r rs b = option_map (λ (r : Record). r.part) (cond b (Some r) (find (has_name name) rs))
 
 -- an edit of each record that keeps its name
 pub part_mapped : (name : List ℕ) (f : Record → Record) (g : Part → Part) → ((r : Record) → (f r).part ≡ g r.part)

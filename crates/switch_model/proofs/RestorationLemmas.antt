@@ -10,7 +10,7 @@ use Rattle.switch_model.specs.Records.{Record, Outline, outlines}
 use Rattle.switch_model.specs.Sights.{sight_of}
 use Rattle.switch_model.specs.Changes.{Change, Remove, Edit, Drop, Refusal, is_called, row_at, new_outline, at_found, at_place, judged, edited_outlines, edited_records, after_verdict, changed}
 use Rattle.switch_model.specs.Histories.{Event, Passes, Changes, stepped, after}
-use Rattle.switch_model.specs.Laws.{Restores}
+use Rattle.switch_model.specs.Laws.{RemovalRestores, RefusalLeaves, Restores}
 use Rattle.switch_model.proofs.ListLemmas.{position_here, get_here, removed_here}
 use Rattle.switch_model.proofs.JudgedLemmas.{AddIs, add_is}
 use Rattle.switch_model.proofs.IsolationLemmas.{join_same, edited_same, bytes_same}
@@ -46,9 +46,9 @@ last_goes geometry all o none =
     ∙ removed_here all [] o
     ∙ append-nil all
 
-pub restores : Restores
+removal_restores : RemovalRestores
 unfolding after
-restores geometry rs task edit packets h =
+removal_restores geometry rs task edit packets h =
     let all : List Outline = outlines rs in
     let is : AddIs geometry all task edit = add_is geometry all task edit h in
     let o : Outline = new_outline task (map (row_at geometry (sight_of geometry all) task) is.found) in
@@ -60,3 +60,10 @@ restores geometry rs task edit packets h =
     ∙ changed_same geometry with_it (Remove task.name)
     ∙ ap (λ os. outlines_after (judged geometry os (Remove task.name)) os) outlines_are
     ∙ last_goes geometry all o is.new
+
+refusal_leaves : RefusalLeaves
+unfolding changed
+refusal_leaves geometry records change why refused = ap (λ verdict. after_verdict verdict records) refused
+
+pub restores : Restores
+restores = record { removed = removal_restores; refused = refusal_leaves }

@@ -1,17 +1,17 @@
 -- Packets and changes keep the tasks sound.
 use Rattle.std.proofs.Common.{◌≡◌, List, [], ◌∷◌, ◌++◌, length, remove, refl, ap, sym, ◌∙◌, subst}
 use Rattle.std.specs.Prelude.{Result, Ok, Err}
-use Rattle.std.specs.List.{All, AllPairs}
-use Rattle.std.proofs.lemmas.List.Elements.{All-nil, All-head, All-tail}
+use Rattle.std.specs.List.{AllPairs}
+use Rattle.std.proofs.lemmas.List.Elements.{All-nil}
 use Rattle.addr_translate.specs.Geometry.{Geometry, IsGeometry}
 use Rattle.sketch_defs.specs.Tasks.{Sketch}
 use Rattle.placer.proofs.PlacementLemmas.{placed_accepted}
-use Rattle.switch_model.specs.Records.{Record, Outline, outlines}
+use Rattle.switch_model.specs.Records.{Outline, outlines}
 use Rattle.switch_model.specs.Sights.{all_held, all_spots, all_uses, sight_of}
 use Rattle.switch_model.specs.Soundness.{IsTask, HaveOwnNames, ShareNone, MatchNone, AgreeOnUnits, Sound}
 use Rattle.switch_model.specs.Changes.{Change, Add, Resize, Remove, Release, Edit, Drop, Thaw, Refusal, judged, edit_at, moved_rows, moved_outline, thawed_outline, edited_outlines, after_verdict, changed}
-use Rattle.switch_model.specs.Histories.{Event, Passes, Changes, stepped, after}
-use Rattle.switch_model.specs.Laws.{IsProper, IsPossible, StaysSound}
+use Rattle.switch_model.specs.Histories.{Passes, Changes}
+use Rattle.switch_model.specs.Laws.{IsProper, StaysSound}
 use Rattle.switch_model.proofs.ListLemmas.{no_pairs, edited_here, removed_here}
 use Rattle.switch_model.proofs.JudgedLemmas.{AddIs, ResizeIs, EditsAt, add_is, resize_is, remove_is, release_is}
 use Rattle.switch_model.proofs.IsolationLemmas.{join_same, edited_same, names_stay}
@@ -69,12 +69,3 @@ none_sound geometry = record {
   filters = no_pairs MatchNone;
   units = no_pairs AgreeOnUnits;
 }
-
--- so all histories of them do
-pub after_sound : (geometry : Geometry) (events : List Event) (rs : List Record) → IsGeometry geometry → All IsPossible events → Sound geometry (outlines rs)
-    → Sound geometry (outlines (after geometry rs events))
-unfolding after
-after_sound geometry [] rs good possible sound = sound
-after_sound geometry (event ∷ events) rs good possible sound =
-    after_sound geometry events (stepped geometry rs event) good (All-tail IsPossible event events possible)
-    (stays_sound geometry rs event good (All-head IsPossible event events possible) sound)

@@ -1,5 +1,5 @@
 -- What holds of every switch.
-use Rattle.std.specs.Prelude.{◌≡◌, ◌≢◌, ℕ, ◌+◌, ◌^◌, ◌==◌, ◌&&◌, Bool, true, false, ⊤, None, nat_le, nat_lt, List, [], ◌∷◌, ◌++◌, map, Ok}
+use Rattle.std.specs.Prelude.{◌≡◌, ◌≢◌, ℕ, ◌+◌, ◌^◌, ◌==◌, ◌&&◌, Bool, true, false, ⊤, None, nat_le, nat_lt, List, [], ◌∷◌, ◌++◌, map, Ok, Err}
 use Rattle.std.specs.List.{All, AllPairs, list_any}
 use Rattle.addr_translate.specs.Geometry.{Geometry, IsGeometry}
 use Rattle.pkt_headers.specs.declared.packets.Packet.{Packet}
@@ -11,7 +11,7 @@ use Rattle.sketch_lower.specs.Operations.{start_of}
 use Rattle.switch_model.specs.Records.{Record, outlines}
 use Rattle.switch_model.specs.Sights.{Holding, live_holding}
 use Rattle.switch_model.specs.Soundness.{Sound}
-use Rattle.switch_model.specs.Changes.{Change, Add, Resize, Remove, Release, Edit, Push, Move, Drop, Thaw, judged, edited_records}
+use Rattle.switch_model.specs.Changes.{Change, Add, Resize, Remove, Release, Edit, Push, Move, Drop, Thaw, Refusal, judged, changed, edited_records}
 use Rattle.switch_model.specs.Packets.{join, calls_of, Layout}
 use Rattle.switch_model.specs.Histories.{Event, Passes, Changes, stepped, after, accepted, part_of, alone}
 
@@ -42,10 +42,20 @@ IsAlone = (geometry : Geometry) (name : List ℕ) (events : List Event)
     → part_of name (after geometry [] events) ≡ alone name (accepted geometry [] events)
 
 -- an added task that is removed leaves the tasks and their places as they were
-abbrev pub Restores : Type 0
-Restores = (geometry : Geometry) (records : List Record) (task : Sketch) (edit : Edit) (packets : List Packet)
+abbrev pub RemovalRestores : Type 0
+RemovalRestores = (geometry : Geometry) (records : List Record) (task : Sketch) (edit : Edit) (packets : List Packet)
     → judged geometry (outlines records) (Add task) ≡ Ok edit
     → outlines (after geometry (edited_records edit records) (map Passes packets ++ Changes (Remove task.name) ∷ [])) ≡ outlines records
+
+-- a refused change leaves the tasks, their places and their packets
+abbrev pub RefusalLeaves : Type 0
+RefusalLeaves = (geometry : Geometry) (records : List Record) (change : Change) (why : Refusal)
+    → judged geometry (outlines records) change ≡ Err why → changed geometry records change ≡ records
+
+-- what changes leave as it was
+pub record Restores : Type 0 where
+  pub removed : RemovalRestores
+  pub refused : RefusalLeaves
 
 -- ---- registers
 

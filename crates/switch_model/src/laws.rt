@@ -20,7 +20,7 @@ pub fn is_alone()
 {}
 
 /// An added task that is removed, after any packets, leaves the tasks and their places as they
-/// were.
+/// were; and a refused change leaves tasks, places and packets.
 #[tactic(auto, using(crate::proofs::RestorationLemmas::restores))]
 pub fn restores()
     ensures { Restores }
