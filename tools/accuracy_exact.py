@@ -158,12 +158,17 @@ class Counted:
         self.task, self.end = task, end
         self.flows: Dict[Value, int] = {}
         self.outside: Dict[Value, None] = {}
+        self.seen: Dict[Value, Tuple[Value, bool]] = {}  # of fields the key value, and whether the filter matches
         self.packets = 0
 
     def take(self, packet: Packet, place: int) -> None:
         """The packet that has so many before it in the capture."""
-        value = self.task.value_of(packet.fields)
-        if self.task.start <= place < self.end and self.task.matches(packet.fields):
+        seen = self.seen.get(packet.fields)
+        if seen is None:
+            seen = self.task.value_of(packet.fields), self.task.matches(packet.fields)
+            self.seen[packet.fields] = seen
+        value, matches = seen
+        if matches and self.task.start <= place < self.end:
             self.packets += 1
             weight = weight_of(self.task.attribute, packet)
             self.flows[value] = joined(self.task.kind, self.flows.get(value), weight)
