@@ -8,3 +8,4 @@ pub mod StepLemmas
 pub mod FlowLemmas
 pub mod ModelLemmas
 pub mod BlockLemmas
+pub mod CallsLemmas

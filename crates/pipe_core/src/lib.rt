@@ -2,6 +2,7 @@
 //! takes it. The rules that packets meet are changed here, and copied.
 #![tactic(auto)]
 
+pub mod laws;
 mod making;
 mod pipe;
 #[cfg(test)]
