@@ -1,5 +1,5 @@
 -- Items with commas between, each of which names a field: what keys and filters share.
-use Rattle.std.specs.Prelude.{ℕ, ◌+◌, ◌==◌, ◌&&◌, Bool, true, false, not, nat_le, if◌then◌else◌, List, [], ◌∷◌, ◌++◌, find, length, slice_index, Option, None, Some, option_and_then, Result, Ok, Err}
+use Rattle.std.specs.Prelude.{ℕ, ◌+◌, ◌==◌, ◌&&◌, Bool, true, false, not, nat_le, if◌then◌else◌, List, [], ◌∷◌, ◌++◌, codes, find, length, slice_index, Option, None, Some, option_and_then, Result, Ok, Err}
 use Rattle.std.specs.List.{join_with_byte, sum_by}
 use Rattle.std.specs.Option.{option_map_or}
 use Rattle.std.specs.Str.{bytes_eq}
@@ -7,12 +7,21 @@ use Rattle.std.specs.Fmt.{decimal}
 use Rattle.texts.specs.Cuts.{front}
 use Rattle.key_mask.specs.declared.fields.Field.{Field}
 use Rattle.key_mask.specs.declared.items.FieldKind.{FieldKind}
-use Rattle.key_mask.specs.declared.items.FieldKind.TheVariants.{RepeatedField}
+use Rattle.key_mask.specs.declared.items.FieldKind.TheVariants.{UnknownField, RepeatedField, BadPrefix, BadValue}
 use Rattle.key_mask.specs.declared.items.FieldFault.{FieldFault}
 use Rattle.key_mask.specs.Fields.{fields, field_number, width_of, kind_of, name_of, prefix_digits}
 use Rattle.key_mask.specs.Numbers.{number_in}
 use Rattle.key_mask.specs.Spellings.{value_text, longest_value, has_no_leading_zero}
 use Rattle.key_mask.specs.Vectors.{value_at}
+
+-- ---- faults
+
+-- how a fault is told, in front of its place
+abbrev pub field_words : FieldKind → List ℕ
+field_words UnknownField = codes "unknown field "
+field_words RepeatedField = codes "repeated field "
+field_words BadPrefix = codes "bad prefix "
+field_words BadValue = codes "bad value "
 
 -- ---- reading
 

@@ -1,37 +1,46 @@
 //! Items with commas between, each of which names a field: what the readers of keys and of filters
 //! share.
-ghost use Rattle.std.specs.Prelude.{◌≡◌, ℕ, List, Result, IsTrue, IfSome};
+ghost use Rattle.std.specs.Prelude.{◌≡◌, ◌≤◌, ℕ, List, length, Result, IsTrue, IfSome};
 ghost use Rattle.std.specs.Option.{option_copied};
 ghost use Rattle.texts.specs.Cuts.{parts};
 ghost use Rattle.key_mask.specs.declared.items.FieldKind.{FieldKind};
 ghost use Rattle.key_mask.specs.Fields.{is_length};
-ghost use Rattle.key_mask.specs.Items.{field_named, prefix_behind, prefix_in, with_items};
+ghost use Rattle.key_mask.specs.Items.{field_named, field_words, prefix_behind, prefix_in, with_items};
 
 use crate::fields::{FIELDS, Field};
 use crate::numbers::number_of;
 use texts::cut;
-use thiserror::Error;
 
 /// What is wrong with an item of a key or a filter.
-#[derive(Clone, Copy, Debug, PartialEq, Eq, Error)]
+#[derive(Clone, Copy, Debug, PartialEq, Eq)]
 pub enum FieldKind {
     /// Its name is no field's.
-    #[error("unknown field")]
     UnknownField,
     /// Its field stood in an earlier item.
-    #[error("repeated field")]
     RepeatedField,
     /// Its prefix is no prefix of the field.
-    #[error("bad prefix")]
     BadPrefix,
     /// Its value is none of the field.
-    #[error("bad value")]
     BadValue,
 }
 
+impl FieldKind {
+    /// How it is told, in front of its place.
+    pub fn words(self) -> &'static str
+        ensures words { result.now ≡ field_words self }
+        ensures short { length result.now ≤ 15 }
+    {
+        match self {
+            FieldKind::UnknownField => "unknown field ",
+            FieldKind::RepeatedField => "repeated field ",
+            FieldKind::BadPrefix => "bad prefix ",
+            FieldKind::BadValue => "bad value ",
+        }
+    }
+}
+
 /// The fault of the first item at fault.
-#[derive(Clone, Copy, Debug, PartialEq, Eq, Error)]
-#[error("{kind} {place}")]
+#[derive(Clone, Copy, Debug, PartialEq, Eq)]
 pub struct FieldFault {
     pub kind: FieldKind,
     /// How many bytes of the text stand before the item.

@@ -111,21 +111,6 @@ mod tests {
     }
 
     #[test]
-    fn faults_are_told(rt: HostRuntime) -> Result<(), Fail> {
-        let rows: [(FieldKind, &str); 4] = [
-            (FieldKind::UnknownField, "unknown field 7"),
-            (FieldKind::RepeatedField, "repeated field 7"),
-            (FieldKind::BadPrefix, "bad prefix 7"),
-            (FieldKind::BadValue, "bad value 7"),
-        ];
-        for (kind, told) in rows {
-            let text = format!(in rt.alloc(); "{}", FieldFault { kind, place: 7 })?;
-            assert_eq!(rt; text.as_str(), told);
-        }
-        Ok(())
-    }
-
-    #[test]
     fn keys_print_in_field_order(rt: HostRuntime) -> Result<(), Fail> {
         let rows: [(&[u8], &str); 8] = [
             (b"src_ip", "src_ip"),

@@ -19,6 +19,7 @@ use Rattle.task_filters.specs.Filters.{Pattern, passes, are_disjoint, difference
 use Rattle.lists.specs.Sorting.{Rising}
 use Rattle.match_table.specs.Tables.{takes, has_mask, order, comes_first, by_rank, mask_of, StandApart}
 use Rattle.lists.proofs.SortLemmas.{Differ, Transitive, Differing, OnlyOne, sorted_rises, find_sorted}
+use Rattle.task_filters.proofs.FilterLemmas.{none_apart}
 use Rattle.match_table.proofs.RunLemmas.{IsByKey, KeyRises}
 
 -- ---- bytes
@@ -87,27 +88,6 @@ differ one two apart =
     subst (λ (v : List ℕ). list_any some_bit (and_bytes (and_bytes (xor_bytes one.filter.value v) (mask_of one)) (mask_of two)) ≡ false) (sym value)
     (no_difference one.filter.value (mask_of one) (mask_of two)) in
     false≢true (sym none ∙ apart))
-
--- what two masks leave of one byte is the same under both
-same_in_both : (v a b : ℕ) → bit_and (bit_and (bit_xor (bit_and v a) (bit_and v b)) a) b ≡ 0
-same_in_both v a b =
-    same_from_bits (bit_and (bit_and (bit_xor (bit_and v a) (bit_and v b)) a) b) 0
-    (λ i. rw (
-      bit_at_and (bit_and (bit_xor (bit_and v a) (bit_and v b)) a) b i,
-      bit_at_and (bit_xor (bit_and v a) (bit_and v b)) a i,
-      bit_at_xor (bit_and v a) (bit_and v b) i,
-      bit_at_and v a i,
-      bit_at_and v b i,
-      bit_at-zero i,
-    )
-    (omega (arith, bit_at-lt v i, bit_at-lt a i, bit_at-lt b i)))
-
-none_apart : (vector one two : List ℕ)
-    → list_any some_bit (and_bytes (and_bytes (xor_bytes (and_bytes vector one) (and_bytes vector two)) one) two) ≡ false
-none_apart [] one two = refl
-none_apart (v ∷ vector) [] two = refl
-none_apart (v ∷ vector) (a ∷ one) [] = refl
-none_apart (v ∷ vector) (a ∷ one) (b ∷ two) = rw (same_in_both v a b) (none_apart vector one two)
 
 -- no vector passes two disjoint filters
 pub passes_one : (one two : Pattern) (vector : List ℕ) → are_disjoint one two ≡ true → passes one vector ≡ true → passes two vector ≡ false

@@ -1,8 +1,8 @@
 -- Two filters share a vector where no bit of both masks tells their values apart.
-use Rattle.std.proofs.Common.{◌<◌, ◌≡◌, ℕ, suc, ◌+◌, ◌%◌, min, Bool, true, false, ◌||◌, List, [], ◌∷◌, length, drop, get_or, bit_and, bit_or, bit_xor, refl, ap, ap₂, sym, ◌∙◌, arith, ⊎_elim, IsTrue, ◌↔◌}
+use Rattle.std.proofs.Common.{◌<◌, ◌≡◌, ℕ, suc, ◌+◌, ◌%◌, min, Bool, true, false, List, [], ◌∷◌, length, drop, get_or, bit_and, bit_or, bit_xor, refl, ap, ap₂, sym, ◌∙◌, arith, ⊎_elim, IsTrue, ◌↔◌}
 use Rattle.std.specs.Int.{bit_at}
 use Rattle.std.specs.List.{All, list_any}
-use Rattle.std.proofs.lemmas.Bool.{cases_Bool, false≢true}
+use Rattle.std.proofs.lemmas.Bool.{cases_Bool, false≢true, or_parts}
 use Rattle.std.proofs.lemmas.Bool.Decides.{nat_tests, same_from_decides}
 use Rattle.std.proofs.lemmas.Slice.Eq.{bytes_eq-Decides}
 use Rattle.std.specs.Str.{bytes_eq}
@@ -63,15 +63,11 @@ or_bytes = bytewise bit_or
 zero_suc : (n : ℕ) → 0 ≡ suc n → ⊥
 zero_suc n e = omega (arith, e)
 
-neither : (a b : Bool) → (a || b) ≡ false → (a ≡ false) × (b ≡ false)
-neither false b e = (refl, e)
-neither true b e = absurd (false≢true (sym e))
-
 no_bit : (n : ℕ) → some_bit n ≡ false → n ≡ 0
 no_bit n e = grind (arith, nat_tests)
 
 -- what two masks leave of one vector differs in no bit of both
-none_apart : (vector one two : List ℕ)
+pub none_apart : (vector one two : List ℕ)
     → list_any some_bit (and_bytes (and_bytes (xor_bytes (and_bytes vector one) (and_bytes vector two)) one) two) ≡ false
 none_apart [] one two = refl
 none_apart (v ∷ vector) [] two = refl
@@ -88,7 +84,7 @@ shared (x ∷ xs) [] one two long p q none = absurd (omega arith)
 shared (x ∷ xs) (y ∷ ys) [] two long p q none = absurd (zero_suc (length xs) (ap length p))
 shared (x ∷ xs) (y ∷ ys) (a ∷ one) [] long p q none = absurd (zero_suc (length ys) (ap length q))
 shared (x ∷ xs) (y ∷ ys) (a ∷ one) (b ∷ two) long p q none =
-    let parts = neither (some_bit (bit_and (bit_and (bit_xor x y) a) b)) (list_any some_bit (and_bytes (and_bytes (xor_bytes xs ys) one) two)) none in
+    let parts = or_parts (some_bit (bit_and (bit_and (bit_xor x y) a) b)) (list_any some_bit (and_bytes (and_bytes (xor_bytes xs ys) one) two)) none in
     let here = together x y a b (ap (λ l. get_or l 0 0) p) (ap (λ l. get_or l 0 0) q) (no_bit (bit_and (bit_and (bit_xor x y) a) b) parts.0) in
     let rest = shared xs ys one two (omega arith) (ap (drop 1) p) (ap (drop 1) q) parts.1 in
     (ap₂ (λ z zs. z ∷ zs) here.0 rest.0, ap₂ (λ z zs. z ∷ zs) here.1 rest.1)
