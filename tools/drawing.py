@@ -1,4 +1,5 @@
 """Pictures of `dist`, and of the cells of `read` and `frozen`. Lengths are in inches."""
+import functools
 import io
 import math
 import re
@@ -7,8 +8,9 @@ import matplotlib
 from matplotlib.collections import PatchCollection
 from matplotlib.colors import LinearSegmentedColormap, LogNorm, Normalize, to_rgb
 from matplotlib.figure import Figure
+from matplotlib.font_manager import FontProperties
 from matplotlib.patches import Rectangle
-from matplotlib.textpath import TextPath
+from matplotlib.textpath import text_to_path
 from matplotlib.ticker import MaxNLocator
 
 # Paul Tol's light colours: told apart by colour-blind readers, and black text is legible on each
@@ -60,9 +62,10 @@ def mix(colour, other, part):
     return tuple((1 - part) * one + part * two for one, two in zip(to_rgb(colour), to_rgb(other)))
 
 
+@functools.lru_cache(maxsize=None)
 def text_width(text, size):
     """How wide a text of this size in points is."""
-    return TextPath((0, 0), text, size=size).get_extents().width / 72 if text.strip() else 0
+    return text_to_path.get_text_width_height_descent(text, FontProperties(size=size), False)[0] / 72
 
 
 def counted(number, word):
@@ -176,6 +179,7 @@ def add_scale(figure, place, size, norm, colours, label):
     bar = figure.colorbar(matplotlib.cm.ScalarMappable(norm, colours), cax=axes)
     bar.outline.set_visible(False)
     bar.solids.set_rasterized(False)
+    bar.solids.set_edgecolor('face')
     if type(norm) is Normalize:
         axes.yaxis.set_major_locator(MaxNLocator(4, integer=True))
     axes.tick_params(labelsize=7.5)
