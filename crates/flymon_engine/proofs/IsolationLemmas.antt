@@ -7,9 +7,9 @@ use Rattle.std.proofs.lemmas.List.Sums.{fold-append}
 use Rattle.std.proofs.lemmas.List.{map-append}
 use Rattle.addr_translate.specs.Geometry.{Geometry}
 use Rattle.readout.specs.declared.requests.Ask as asks
-use Rattle.readout.specs.declared.requests.Request.TheVariants.{Task}
+use Rattle.flymon_engine.specs.declared.work.Request.TheVariants.{Task}
 use Rattle.readout.specs.PlacedTasks.{View}
-use Rattle.readout.specs.Answers.{part_named, answer_if_live, task_answer, answer_to}
+use Rattle.readout.specs.Answers.{part_named, answer_if_live, task_answer}
 use Rattle.sw_profile.specs.declared.profiles.Profile.{Profile}
 use Rattle.switch_model.specs.Records.{Part, Record}
 use Rattle.switch_model.specs.Packets.{join}
@@ -22,7 +22,7 @@ use Rattle.flymon_engine.specs.Boards.{Board, lines_in}
 use Rattle.flymon_engine.specs.Runs.{Run, passed, taken_by, step, carried}
 use Rattle.rule_txn.specs.Seen.{part_shown, parts_shown, view_of}
 use Rattle.flymon_engine.specs.Endings.{beginning}
-use Rattle.flymon_engine.specs.Serial.{serial_rules, with_records, answer_on, request_verdict, state_of}
+use Rattle.flymon_engine.specs.Serial.{serial_rules, with_records, answer_on, request_verdict, state_of, answer_to}
 use Rattle.flymon_engine.specs.Laws.{CountsAlone, AnswersAlone, events_of, history, is_own, own_history, lines_after}
 use Rattle.flymon_engine.proofs.TakeLemmas.{take_next, drop_next, passed_next}
 

@@ -41,14 +41,14 @@ use Rattle.flymon_engine.specs.Works.{IsFilling, IsReading}
 use Rattle.flymon_engine.specs.Moves as moves
 use Rattle.flymon_engine.specs.Moves.{Moves, Changes}
 use Rattle.flymon_engine.specs.ChangeLines.{change_of, done_line, denied_line, Tells}
-use Rattle.flymon_engine.specs.Serial.{serial_rules, with_records, change_verdict, denied_request, request_verdict, answer_on, state_of, FitsSerial, IsSerial, EditsTo}
+use Rattle.flymon_engine.specs.Serial.{serial_rules, with_records, change_verdict, denied_request, request_verdict, answer_on, state_of, FitsSerial, IsSerial, EditsTo, answer_to}
 use Rattle.flymon_engine.specs.declared.machine.AskFault.{AskFault}
 use Rattle.flymon_engine.specs.declared.machine.AskFault.TheVariants as faults
 use Rattle.readout.specs.declared.faults.ReadFault.{ReadFault}
 use Rattle.readout.specs.declared.refusals.Stop.TheVariants.{Device, Write}
-use Rattle.readout.specs.declared.requests.Request.{Request}
-use Rattle.readout.specs.declared.requests.Request.TheVariants.{Task, Show, Stat}
-use Rattle.readout.specs.Answers.{Answer, answer_to}
+use Rattle.flymon_engine.specs.declared.work.Request.{Request}
+use Rattle.flymon_engine.specs.declared.work.Request.TheVariants.{Task, Show, Stat}
+use Rattle.readout.specs.Answers.{Answer, answer_by, task_answer}
 use Rattle.readout.specs.Lines.{show_lines, stat_lines}
 use Rattle.readout.specs.Outcomes.{Outcome, Judges, Replies}
 use Rattle.readout.specs.PlacedTasks.{parts_in}
@@ -366,13 +366,15 @@ still_fits cause verdict made serial now dims dims' answers same fits =
 -- a read-out of a task, of which the switch told this outcome
 pub serial_read : (request : Request) (name : List ℕ) (ask : Ask) → request ≡ Task name ask → (key : List ℕ) (switch : SwitchState) (cells0 cells1 : Option Contents)
     (sent0 sent1 : Option (List ℕ)) (outcome asked : Outcome) (result : Result (Option ArrayString) AskFault) → key ≡ switch.hash_key → outcome ≡ asked → Stays cells0 cells1
-    → Replies (λ told. answer_to key request (view_of switch) (parts_in told (view_of switch))) cells1 sent0 outcome sent1
+    → Replies (λ told. answer_by name (task_answer key ask) (parts_in told (view_of switch))) cells1 sent0 outcome sent1
     → Ends (Task name ask) asked result → (board : Board)
     → Told (λ old new. IsSerial switch board old → moves.Answers request (serial_rules.answer board request) result sent0 sent1) cells0 cells1
+unfolding answer_to
 serial_read request name ask is key switch cells0 cells1 sent0 sent1 outcome asked result keyed ended stays replies ends board =
-    serial_asked request switch cells0 cells1 sent0 sent1 outcome result stays
-    (subst (λ k. Replies (λ told. answer_to k request (view_of switch) (parts_in told (view_of switch))) cells1 sent0 outcome sent1) keyed replies)
-    (subst (λ r. Ends r outcome result) (sym is) (subst (λ o. Ends (Task name ask) o result) (sym ended) ends)) board
+    subst (λ r. Told (λ old new. IsSerial switch board old → moves.Answers r (serial_rules.answer board r) result sent0 sent1) cells0 cells1) (sym is)
+    (serial_asked (Task name ask) switch cells0 cells1 sent0 sent1 outcome result stays
+    (subst (λ k. Replies (λ told. answer_by name (task_answer k ask) (parts_in told (view_of switch))) cells1 sent0 outcome sent1) keyed replies)
+    (subst (λ o. Ends (Task name ask) o result) (sym ended) ends) board)
 
 pub serial_listed : (request asked : Request) → request ≡ asked → (result : Result (Option ArrayString) AskFault) (switch : SwitchState) (cells : Option Contents)
     (sent0 sent1 : Option (List ℕ)) (board : Board)

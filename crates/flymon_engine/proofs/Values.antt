@@ -15,7 +15,7 @@ use Rattle.pkt_headers.specs.declared.packets.Packet.{Packet}
 use Rattle.pkt_headers.specs.declared.packets.Attr.TheVariants.{Packets}
 use Rattle.placer.specs.Sights.{bits_for}
 use Rattle.placer.specs.Placement.{open_arrays, places_for, placed}
-use Rattle.readout.specs.Answers.{answer_to, line_of_query}
+use Rattle.readout.specs.Answers.{line_of_query}
 use Rattle.readout.specs.Lines.{head_line, cell_line, cells_lines, query_line}
 use Rattle.reg_file.specs.declared.traits.Call.{Call}
 use Rattle.sketch_defs.specs.declared.kinds.Kind.{Kind}
@@ -37,7 +37,7 @@ use Rattle.flymon_engine.specs.Arrivals.{Arrival, Left}
 use Rattle.flymon_engine.specs.Runs.{Run, passed, step}
 use Rattle.flymon_engine.specs.Going.{going, damage_met}
 use Rattle.flymon_engine.specs.Endings.{beginning, finished}
-use Rattle.flymon_engine.specs.Serial.{serial_rules}
+use Rattle.flymon_engine.specs.Serial.{serial_rules, answer_to}
 use Rattle.flymon_engine.specs.Flight.{flight_rules}
 
 -- a packet from 10.0.0.x port 1024 to port 80 of 192.168.1.1, with the flags of the first packet of a connection

@@ -5,7 +5,7 @@ use Rattle.pkt_headers.specs.declared.packets.Packet.{Packet}
 use Rattle.switch_model.specs.Records.{Record}
 use Rattle.sw_profile.specs.declared.profiles.Profile.{Profile}
 use Rattle.flymon_engine.specs.declared.work.Change.{Change}
-use Rattle.readout.specs.declared.requests.Request.{Request}
+use Rattle.flymon_engine.specs.declared.work.Request.{Request}
 
 -- a packet in flight: the group before which it stands, whether it entered before the last change, and the operations that
 -- it has still to make

@@ -4,7 +4,7 @@ use Rattle.addr_translate.specs.Geometry.{IsGeometry}
 use Rattle.reg_file.specs.Calls.{is_on}
 use Rattle.std.specs.Str.{bytes_eq}
 use Rattle.readout.specs.declared.requests.Ask as asks
-use Rattle.readout.specs.declared.requests.Request.TheVariants.{Task}
+use Rattle.flymon_engine.specs.declared.work.Request.TheVariants.{Task}
 use Rattle.sw_profile.specs.declared.profiles.Profile.{Profile}
 use Rattle.switch_model.specs.Histories.{Event, Passes, Changes, accepted, alone, part_of, name_in}
 use Rattle.flymon_engine.specs.declared.work.Work.{Work}

@@ -7,7 +7,7 @@ use Rattle.addr_translate.specs.Geometry.{Geometry, array_count, greatest_bits}
 use Rattle.reg_file.specs.Registers.{Contents, Dims}
 use Rattle.reg_file.specs.declared.traits.Call.{Call}
 use Rattle.flymon_engine.specs.declared.work.Change.{Change}
-use Rattle.readout.specs.declared.requests.Request.{Request}
+use Rattle.flymon_engine.specs.declared.work.Request.{Request}
 use Rattle.flymon_engine.specs.declared.machine.AskFault.{AskFault}
 use Rattle.flymon_engine.specs.declared.machine.AskFault.TheVariants.{Device, Write}
 use Rattle.flymon_engine.specs.Boards.{Board, Move, Verdict, Accepted, Refused, lines_in, IsAccepted, Rules}

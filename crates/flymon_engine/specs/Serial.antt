@@ -7,10 +7,13 @@ use Rattle.pkt_headers.specs.declared.packets.Packet.{Packet}
 use Rattle.reg_file.specs.Registers.{Contents, Dims}
 use Rattle.reg_file.specs.declared.traits.Call.{Call}
 use Rattle.reg_file.specs.declared.traits.DeviceFault.{DeviceFault}
-use Rattle.readout.specs.declared.requests.Request.{Request}
-use Rattle.readout.specs.declared.requests.Request.TheVariants as requests
+use Rattle.flymon_engine.specs.declared.work.Request.{Request}
+use Rattle.flymon_engine.specs.declared.work.Request.TheVariants as requests
 use Rattle.readout.specs.declared.refusals as refusals
-use Rattle.readout.specs.Answers.{Answer, answer_to, refused_line}
+use Rattle.readout.specs.Answers.{Answer, answer_by, task_answer, refused_line}
+use Rattle.readout.specs.Lines.{show_lines, stat_lines}
+use Rattle.readout.specs.Parts.{SketchPart}
+use Rattle.readout.specs.PlacedTasks.{View}
 use Rattle.switch_model.specs.Records.{Record, outlines}
 use Rattle.switch_model.specs.Changes.{Edit, Refusal, judged, changed}
 use Rattle.switch_model.specs.Packets.{join, calls_of, Layout}
@@ -58,6 +61,12 @@ request_verdict request (Err why) = Refused (denied_request request why)
 -- what a switch keeps of a board
 abbrev pub state_of : Board → SwitchState
 state_of board = record { geometry = board.profile.shape; hash_key = board.profile.key; outlines = outlines board.records }
+
+-- the answer to a request
+unfoldable pub answer_to : List ℕ → Request → View → List SketchPart → Answer
+answer_to hash_key (requests.Task name ask) view parts = answer_by name (task_answer hash_key ask) parts
+answer_to hash_key requests.Show view parts = Ok (show_lines view)
+answer_to hash_key requests.Stat view parts = Ok (stat_lines view)
 
 -- the answer over what the tasks have counted, and where they stand
 abbrev pub answer_on : Board → Request → Answer

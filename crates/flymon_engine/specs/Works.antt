@@ -6,8 +6,8 @@ use Rattle.flymon_engine.specs.declared.work.Work.{Work}
 use Rattle.flymon_engine.specs.declared.work.Work.TheVariants as works
 use Rattle.flymon_engine.specs.declared.work.Change.{Change}
 use Rattle.flymon_engine.specs.declared.work.Change.TheVariants as changes
-use Rattle.readout.specs.declared.requests.Request.{Request}
-use Rattle.readout.specs.declared.requests.Request.TheVariants as requests
+use Rattle.flymon_engine.specs.declared.work.Request.{Request}
+use Rattle.flymon_engine.specs.declared.work.Request.TheVariants as requests
 use Rattle.readout.specs.declared.requests.Ask.{Ask}
 use Rattle.readout.specs.declared.requests.Ask.TheVariants as asks
 use Rattle.readout.specs.declared.views.Side.TheVariants as sides

@@ -17,10 +17,9 @@ use crate::captures::next_packet;
 use crate::lines::{line_packets, send};
 use crate::machine::{AskFault, Machine};
 use crate::stop::Halt;
-use crate::work::{Change, Work, work_of};
+use crate::work::{Change, Request, Work, work_of};
 use capture_read::{Capture, CaptureFault};
 use fm_io::{Files, Sink};
-use readout::Request;
 use reg_file::{DeviceFault, RegFile};
 use task_lang::Command;
 

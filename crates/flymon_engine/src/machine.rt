@@ -6,11 +6,10 @@ ghost use Rattle.reg_file.specs.Registers.{Dims, Contents};
 ghost use Rattle.flymon_engine.specs.Boards.{Board, Rules, no_tasks};
 ghost use Rattle.flymon_engine.specs.Moves.{dims_of, WasTold, Moves, Changes, Answers, NoCalls};
 
-use crate::work::Change;
+use crate::work::{Change, Request};
 use fm_io::Sink;
 use key_mask::Line;
 use pkt_headers::Packet;
-use readout::Request;
 use reg_file::{DeviceFault, RegFile};
 use std::alloc::Global;
 use sw_profile::Profile;

@@ -15,13 +15,12 @@ ghost use Rattle.flymon_engine.specs.Pipelined.{IsPipeOf, IsAirborne, FitsPipeli
 
 use crate::machine::{AskFault, Machine, StartFail};
 use crate::serial::Serial;
-use crate::work::Change;
+use crate::work::{Change, Request};
 use fm_io::Sink;
 use key_mask::Line;
 use pipe_core::Pipe;
 use pipe_flight::Flight;
 use pkt_headers::Packet;
-use readout::Request;
 use reg_file::{DeviceFault, RegFile};
 use std::alloc::Global;
 use sw_profile::Profile;

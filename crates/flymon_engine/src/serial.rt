@@ -15,12 +15,12 @@ ghost use Rattle.flymon_engine.specs.Serial.{serial_rules, serial_lays, FitsSeri
 
 use crate::change_lines::{Reason, line_denied, line_done};
 use crate::machine::{AskFault, Machine, StartFail};
-use crate::work::Change;
+use crate::work::{Change, Request};
 use fm_io::Sink;
 use hash_units::HashKey;
 use key_mask::Line;
 use pkt_headers::Packet;
-use readout::{ReadFault, Readout, Request, Stop, refused_line};
+use readout::{ReadFault, Readout, Stop, refused_line};
 use reg_file::{DeviceFault, RegFile};
 use rule_txn::{AddFault, ReleaseFault, ResizeFault, Switch, Unknown};
 use sketch_defs::Task;
@@ -167,7 +167,7 @@ impl Serial {
             Request::Task { name, ask } => {
                 match self
                     .reader
-                    .read_out(&self.switch, regs, &self.key, request, out)
+                    .read_out(&self.switch, regs, &self.key, name, ask, out)
                 {
                     Ok(Ok(())) => Ok(None),
                     Ok(Err(refusal)) => Ok(Some(refused_line(ask, name, refusal))),

@@ -2,7 +2,7 @@
 ghost use Rattle.std.specs.Prelude.{◌≡◌};
 ghost use Rattle.flymon_engine.specs.Works.{work_of, about};
 
-use readout::{Ask, Request, Side};
+use readout::{Ask, Side};
 use sketch_defs::{Name, Task};
 use task_lang::Command;
 
@@ -13,6 +13,14 @@ pub(crate) enum Change {
     Resize { name: Name, size: u32 },
     Remove(Name),
     Release(Name),
+}
+
+/// A read-out of one task, of all tasks, or of what is in use.
+#[derive(Clone, Copy, Debug, PartialEq, Eq)]
+pub(crate) enum Request {
+    Task { name: Name, ask: Ask },
+    Show,
+    Stat,
 }
 
 /// Packets, at most so many; a change; or an answer.

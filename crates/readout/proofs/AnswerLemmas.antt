@@ -1,7 +1,7 @@
 -- What the parts of tasks answer, and how a read-out ends.
-use Rattle.std.proofs.Common.{◌≡◌, ◌≢◌, ℕ, Bool, true, false, if◌then◌else◌, List, Option, None, Some, Result, Ok, Err, IfSome, IfOk, option_map, is_some, refl, ap, ap₂, sym, ◌∙◌, subst}
+use Rattle.std.proofs.Common.{◌≡◌, ◌≢◌, ℕ, Bool, true, false, if◌then◌else◌, List, Option, None, Some, Result, Ok, Err, IfSome, IfOk, option_map, is_some, refl, ap, ap₂, sym, ◌∙◌, subst, inl, inr}
 use Rattle.std.specs.Str.{bytes_eq}
-use Rattle.std.specs.Prelude.{not, ◌&&◌}
+use Rattle.std.specs.Prelude.{not, ◌&&◌, IfErr}
 use Rattle.std.proofs.lemmas.Bool.{false≢true}
 use Rattle.std.proofs.lemmas.Slice.Eq.{bytes_eq-Decides}
 use Rattle.key_mask.specs.Masks.{mask_bytes_of}
@@ -12,194 +12,205 @@ use Rattle.reg_file.specs.Registers.{Contents}
 use Rattle.task_filters.specs.Filters.{Pattern}
 use Rattle.sketch_defs.specs.declared.answers.Reply.{Reply}
 use Rattle.sketch_defs.specs.declared.kinds.Kind.{Kind}
-use Rattle.sketch_defs.specs.declared.kinds.Kind.TheVariants.{Cms, SumaxSum, SumaxMax, Bloom, Mrac, Hll, FlagOr, FlagAnd}
+use Rattle.sketch_defs.specs.declared.kinds.Kind.TheVariants.{Mrac, Hll}
 use Rattle.sketch_defs.specs.Answers.{answer_of, cells_found, sizes_of, zeros_of, z_of, raw_of}
 use Rattle.sketch_defs.specs.Cells.{key_hash, row_of}
 use Rattle.sketch_defs.specs.Tasks.{Sketch}
 use Rattle.readout.specs.declared.refusals.Refusal.{Refusal}
-use Rattle.readout.specs.declared.refusals.Refusal.TheVariants.{Unknown, NoFrozen, NoAnswer, BadKey}
-use Rattle.readout.specs.declared.faults.ReadFault.{ReadFault}
-use Rattle.readout.specs.declared.faults.ReadFault.TheVariants.{Write}
+use Rattle.readout.specs.declared.refusals.Refusal.TheVariants.{NoFrozen, NoAnswer, BadKey}
 use Rattle.readout.specs.declared.refusals.Stop.{Stop}
-use Rattle.readout.specs.declared.refusals.Stop.TheVariants as stops
-use Rattle.std.specs.Result.{IsErrAnd, IfErr, OnErr}
 use Rattle.readout.specs.declared.requests.Ask.{Ask}
-use Rattle.readout.specs.declared.requests.Request.{Request}
-use Rattle.readout.specs.declared.requests.Request.TheVariants.{Task, Show, Stat}
+use Rattle.readout.specs.declared.requests.Ask.TheVariants.{Cells, Query, Dist, Card}
 use Rattle.readout.specs.declared.views.Side.{Side}
 use Rattle.readout.specs.declared.views.Side.TheVariants.{Live, Frozen}
 use Rattle.readout.specs.Parts.{Rows, SketchPart}
-use Rattle.readout.specs.PlacedTasks.{PlacedTask, View, HasSide, place_at, part_in, parts_in, rows_of_side}
-use Rattle.readout.specs.Lines.{query_line, dist_lines, card_line, show_lines, stat_lines}
-use Rattle.readout.specs.Answers.{Answer, lines_of_rows, lines_of_frozen, lines_of_cells, line_of_reply, line_of_query, lines_of_dist, line_of_card, answer_if_live, answer_by, answer_to, task_answer, is_mrac, is_hll}
-use Rattle.readout.specs.Outcomes.{Outcome, Judges, IsAllowed, Replies, outcome_of}
-use Rattle.readout.proofs.CellLemmas.{told_all, told_then}
+use Rattle.readout.specs.PlacedTasks.{PlacedTask, View, HasSide, place_at, task_in, part_in, parts_in, rows_of_side}
+use Rattle.readout.specs.Lines.{query_line, dist_lines, card_line}
+use Rattle.readout.specs.Answers.{Answer, lines_of_rows, lines_of_frozen, lines_of_cells, line_of_reply, line_of_query, lines_of_dist, line_of_card, part_named, answer_if_live, answer_by, task_answer, refusal_by, Serves, is_mrac, is_hll, answers_keys}
+use Rattle.readout.specs.Outcomes.{Outcome, Judges, Replies, outcome_of_sent}
+use Rattle.readout.proofs.ToldLemmas.{told_all, told_then}
 
--- ---- by the name
+-- ---- a task that is not refused answers with lines
 
-pub none_live : (answer : SketchPart → Answer) (found : Option SketchPart) → found ≡ None → answer_if_live answer found ≡ Err Unknown
-none_live answer found is = ap (answer_if_live answer) is
+-- an answer is this refusal, or lines where there is none
+abbrev Agrees : Option Refusal → Answer → Type 0
+Agrees None (Ok lines) = Unit {0}
+Agrees None (Err refusal) = ⊥
+Agrees (Some refusal) answer = answer ≡ Err refusal
 
-pub live_answers : (answer : SketchPart → Answer) (found : Option SketchPart) (part : SketchPart) (told : Answer) → found ≡ Some part → answer part ≡ told
-    → answer_if_live answer found ≡ told
-live_answers answer found part told is e = ap (answer_if_live answer) is ∙ e
+frozen_agrees : (task : Sketch) (rows : Rows) (frozen : Option Block)
+    → Agrees (if is_some frozen then None else Some NoFrozen) (lines_of_frozen task (option_map (λ (block : Block). rows) frozen))
+frozen_agrees task rows None = refl
+frozen_agrees task rows (Some block) = tt
 
--- ---- cells
+reply_agrees : (keyed : Bool) (name : List ℕ) (reply : Option Reply)
+    → Agrees (if is_some reply then (if keyed then None else Some BadKey) else Some NoAnswer) (line_of_reply keyed name reply)
+reply_agrees keyed name None = refl
+reply_agrees true name (Some reply) = tt
+reply_agrees false name (Some reply) = refl
 
-frozen_none : (task : Sketch) (rows : Rows) (frozen : Option Block) → is_some frozen ≡ false
-    → lines_of_frozen task (option_map (λ (block : Block). rows) frozen) ≡ Err NoFrozen
-frozen_none task rows None none = refl
-frozen_none task rows (Some block) none = absurd (false≢true (sym none))
+only_agrees : (has : Bool) (lines : List ℕ) → Agrees (if has then None else Some NoAnswer) (if has then Ok lines else Err NoAnswer)
+only_agrees true lines = tt
+only_agrees false lines = refl
 
-frozen_some : (task : Sketch) (rows : Rows) (frozen : Option Block) → is_some frozen ≡ true
-    → lines_of_frozen task (option_map (λ (block : Block). rows) frozen) ≡ Ok (lines_of_rows Frozen task rows)
-frozen_some task rows None some = absurd (false≢true some)
-frozen_some task rows (Some block) some = refl
-
-pub nothing_frozen : (told : Contents) (placed : PlacedTask) → is_some (place_at placed 0).frozen ≡ false → lines_of_cells Frozen (part_in told placed) ≡ Err NoFrozen
-nothing_frozen told placed none = frozen_none placed.task (rows_of_side told Frozen placed) (place_at placed 0).frozen none
-
-pub cells_lines_of : (side : Side) (placed : PlacedTask) → HasSide side placed → (told : Contents)
-    → lines_of_cells side (part_in told placed) ≡ Ok (lines_of_rows side placed.task (rows_of_side told side placed))
-cells_lines_of Live placed has told = refl
-cells_lines_of Frozen placed has told = frozen_some placed.task (rows_of_side told Frozen placed) (place_at placed 0).frozen has
-
--- ---- key values
-
-mrac_replies : (cells : List ℕ) (h : ℕ) → answer_of Mrac cells h ≡ None
+some_reply : (kind : Kind) (cells : List ℕ) (h : ℕ) → is_some (answer_of kind cells h) ≡ answers_keys kind
 unfolding answer_of
-mrac_replies cells h = refl
+some_reply Mrac cells h = refl
+some_reply Hll cells h = refl
+some_reply _ cells h = refl
 
-hll_replies : (cells : List ℕ) (h : ℕ) → answer_of Hll cells h ≡ None
-unfolding answer_of
-hll_replies cells h = refl
-
-no_reply : (hash_key : List ℕ) (at : Pattern) (part : SketchPart) → ((cells : List ℕ) (h : ℕ) → answer_of part.task.kind cells h ≡ None)
-    → line_of_query hash_key at part ≡ Err NoAnswer
-unfolding line_of_query
-no_reply hash_key at part none =
-    let h = key_hash hash_key part.task at.value in
-    ap (line_of_reply (bytes_eq at.mask part.task.key) part.task.name) (none (cells_found h part.live.bits part.live.cells) h)
-
-pub no_key_answer : (hash_key : List ℕ) (at : Pattern) (part : SketchPart) → (part.task.kind ≡ Mrac) → line_of_query hash_key at part ≡ Err NoAnswer
-no_key_answer hash_key at part is = no_reply hash_key at part (λ cells h. ap (λ (k : Kind). answer_of k cells h) is ∙ mrac_replies cells h)
-
-pub no_rank_answer : (hash_key : List ℕ) (at : Pattern) (part : SketchPart) → (part.task.kind ≡ Hll) → line_of_query hash_key at part ≡ Err NoAnswer
-no_rank_answer hash_key at part is = no_reply hash_key at part (λ cells h. ap (λ (k : Kind). answer_of k cells h) is ∙ hll_replies cells h)
-
-replies_to : (kind : Kind) → kind ≢ Mrac → kind ≢ Hll → (cells : List ℕ) (h : ℕ) → (reply : Reply) × (answer_of kind cells h ≡ Some reply)
-unfolding answer_of
-replies_to Cms a b cells h = (_, refl)
-replies_to SumaxSum a b cells h = (_, refl)
-replies_to SumaxMax a b cells h = (_, refl)
-replies_to Bloom a b cells h = (_, refl)
-replies_to Mrac a b cells h = absurd (a refl)
-replies_to Hll a b cells h = absurd (b refl)
-replies_to FlagOr a b cells h = (_, refl)
-replies_to FlagAnd a b cells h = (_, refl)
-
-pub bad_key : (hash_key : List ℕ) (at : Pattern) (part : SketchPart) → part.task.kind ≢ Mrac → part.task.kind ≢ Hll → bytes_eq at.mask part.task.key ≡ false
-    → line_of_query hash_key at part ≡ Err BadKey
-unfolding line_of_query
-bad_key hash_key at part a b other =
-    let h = key_hash hash_key part.task at.value in
-    let told = replies_to part.task.kind a b (cells_found h part.live.bits part.live.cells) h in
-    ap₂ (λ keyed reply. line_of_reply keyed part.task.name reply) other told.1
-
--- the line of a reply
+-- what the cells of a task reply to a key value
 abbrev pub reply_of : List ℕ → Pattern → SketchPart → Option Reply
 reply_of hash_key at part =
     let h = key_hash hash_key part.task at.value in answer_of part.task.kind (cells_found h part.live.bits part.live.cells) h
 
-pub query_line_of : (hash_key : List ℕ) (at : Pattern) (part : SketchPart) (reply : Reply) → bytes_eq at.mask part.task.key ≡ true
-    → reply_of hash_key at part ≡ Some reply → line_of_query hash_key at part ≡ Ok (query_line part.task.name reply)
+key_agrees : (hash_key : List ℕ) (at : Pattern) (part : SketchPart)
+    → Agrees (if answers_keys part.task.kind then (if bytes_eq at.mask part.task.key then None else Some BadKey) else Some NoAnswer) (line_of_query hash_key at part)
 unfolding line_of_query
-query_line_of hash_key at part reply keyed is = ap₂ (λ k r. line_of_reply k part.task.name r) keyed is
-
-pub some_query_line : (hash_key : List ℕ) (at : Pattern) (part : SketchPart) → part.task.kind ≢ Mrac → part.task.kind ≢ Hll → bytes_eq at.mask part.task.key ≡ true
-    → (reply : Reply) × (line_of_query hash_key at part ≡ Ok (query_line part.task.name reply))
-some_query_line hash_key at part a b keyed =
+key_agrees hash_key at part =
     let h = key_hash hash_key part.task at.value in
-    let told = replies_to part.task.kind a b (cells_found h part.live.bits part.live.cells) h in
-    (told.0, query_line_of hash_key at part told.0 keyed told.1)
+    let keyed = bytes_eq at.mask part.task.key in
+    subst (λ some. Agrees (if some then (if keyed then None else Some BadKey) else Some NoAnswer) (line_of_reply keyed part.task.name (reply_of hash_key at part)))
+    (some_reply part.task.kind (cells_found h part.live.bits part.live.cells) h) (reply_agrees keyed part.task.name (reply_of hash_key at part))
 
--- ---- sizes and estimates
-
-not_mrac : (kind : Kind) (lines : Answer) → kind ≢ Mrac → (if is_mrac kind then lines else Err NoAnswer) ≡ Err NoAnswer
-not_mrac Cms lines other = refl
-not_mrac SumaxSum lines other = refl
-not_mrac SumaxMax lines other = refl
-not_mrac Bloom lines other = refl
-not_mrac Mrac lines other = absurd (other refl)
-not_mrac Hll lines other = refl
-not_mrac FlagOr lines other = refl
-not_mrac FlagAnd lines other = refl
-
-not_hll : (kind : Kind) (lines : Answer) → kind ≢ Hll → (if is_hll kind then lines else Err NoAnswer) ≡ Err NoAnswer
-not_hll Cms lines other = refl
-not_hll SumaxSum lines other = refl
-not_hll SumaxMax lines other = refl
-not_hll Bloom lines other = refl
-not_hll Mrac lines other = refl
-not_hll Hll lines other = absurd (other refl)
-not_hll FlagOr lines other = refl
-not_hll FlagAnd lines other = refl
-
-pub no_sizes : (part : SketchPart) → part.task.kind ≢ Mrac → lines_of_dist part ≡ Err NoAnswer
+dist_agrees : (part : SketchPart) → Agrees (if is_mrac part.task.kind then None else Some NoAnswer) (lines_of_dist part)
 unfolding lines_of_dist
-no_sizes part other = not_mrac part.task.kind (Ok (dist_lines part.task.name (sizes_of (row_of part.live.cells 0)))) other
+dist_agrees part = only_agrees (is_mrac part.task.kind) (dist_lines part.task.name (sizes_of (row_of part.live.cells 0)))
 
-pub no_estimate : (part : SketchPart) → part.task.kind ≢ Hll → line_of_card part ≡ Err NoAnswer
+card_agrees : (part : SketchPart) → Agrees (if is_hll part.task.kind then None else Some NoAnswer) (line_of_card part)
 unfolding line_of_card
-no_estimate part other =
+card_agrees part =
     let cells = row_of part.live.cells 0 in
-    not_hll part.task.kind (Ok (card_line part.task.name (zeros_of cells) (z_of cells) (raw_of part.live.bits (z_of cells)))) other
+    only_agrees (is_hll part.task.kind) (card_line part.task.name (zeros_of cells) (z_of cells) (raw_of part.live.bits (z_of cells)))
 
-pub dist_lines_of : (part : SketchPart) → part.task.kind ≡ Mrac → lines_of_dist part ≡ Ok (dist_lines part.task.name (sizes_of (row_of part.live.cells 0)))
+agrees : (hash_key : List ℕ) (ask : Ask) (placed : PlacedTask) (told : Contents) → Agrees (refusal_by ask placed) (task_answer hash_key ask (part_in told placed))
+agrees hash_key (Cells Live) placed told = tt
+agrees hash_key (Cells Frozen) placed told = frozen_agrees placed.task (rows_of_side told Frozen placed) (place_at placed 0).frozen
+agrees hash_key (Query at) placed told = key_agrees hash_key at (part_in told placed)
+agrees hash_key Dist placed told = dist_agrees (part_in told placed)
+agrees hash_key Card placed told = card_agrees (part_in told placed)
+
+-- ---- what a task has that is not refused
+
+unrefused : (has : Bool) (refusal : Refusal) (rest : Option Refusal) → (if has then rest else Some refusal) ≡ None → has ≡ true
+unrefused true refusal rest e = refl
+unrefused false refusal rest e = let no : ⊥ = cc in absurd no
+
+pub has_side : (side : Side) (placed : PlacedTask) → refusal_by (Cells side) placed ≡ None → HasSide side placed
+has_side Live placed e = tt
+has_side Frozen placed e = unrefused (is_some (place_at placed 0).frozen) NoFrozen None e
+
+pub has_reply : (at : Pattern) (placed : PlacedTask) → refusal_by (Query at) placed ≡ None → answers_keys placed.task.kind ≡ true
+has_reply at placed e = unrefused (answers_keys placed.task.kind) NoAnswer (if bytes_eq at.mask placed.task.key then None else Some BadKey) e
+
+pub has_key : (at : Pattern) (placed : PlacedTask) → refusal_by (Query at) placed ≡ None → bytes_eq at.mask placed.task.key ≡ true
+has_key at placed e =
+    unrefused (bytes_eq at.mask placed.task.key) BadKey None
+    (subst (λ some. (if some then (if bytes_eq at.mask placed.task.key then None else Some BadKey) else Some NoAnswer) ≡ None) (has_reply at placed e) e)
+
+ranks : (kind : Kind) → is_hll kind ≡ true → kind ≡ Hll
+ranks Hll e = refl
+ranks _ e = absurd (false≢true e)
+
+pub has_ranks : (placed : PlacedTask) → refusal_by Card placed ≡ None → placed.task.kind ≡ Hll
+has_ranks placed e = ranks placed.task.kind (unrefused (is_hll placed.task.kind) NoAnswer None e)
+
+pub no_counters : (kind : Kind) → answers_keys kind ≡ true → kind ≢ Mrac
+no_counters kind answers is = false≢true (sym (ap answers_keys is) ∙ answers)
+
+pub no_ranks : (kind : Kind) → answers_keys kind ≡ true → kind ≢ Hll
+no_ranks kind answers is = false≢true (sym (ap answers_keys is) ∙ answers)
+
+-- ---- what holds of the lines of a task holds of its answer
+
+frozen_lines : (task : Sketch) (rows : Rows) (frozen : Option Block) (P : List ℕ → Type 0) → P (lines_of_rows Frozen task rows)
+    → IfOk (lines_of_frozen task (option_map (λ (block : Block). rows) frozen)) P
+frozen_lines task rows None P p = tt
+frozen_lines task rows (Some block) P p = p
+
+pub cells_answered : (side : Side) (placed : PlacedTask) (told : Contents) (P : List ℕ → Type 0) → P (lines_of_rows side placed.task (rows_of_side told side placed))
+    → IfOk (lines_of_cells side (part_in told placed)) P
+cells_answered Live placed told P p = p
+cells_answered Frozen placed told P p = frozen_lines placed.task (rows_of_side told Frozen placed) (place_at placed 0).frozen P p
+
+only_lines : (has : Bool) (lines : List ℕ) (refusal : Refusal) (P : List ℕ → Type 0) → P lines → let answer : Answer = if has then Ok lines else Err refusal in IfOk answer P
+only_lines true lines refusal P p = p
+only_lines false lines refusal P p = tt
+
+pub dist_answered : (part : SketchPart) (P : List ℕ → Type 0) → P (dist_lines part.task.name (sizes_of (row_of part.live.cells 0))) → IfOk (lines_of_dist part) P
 unfolding lines_of_dist
-dist_lines_of part is = rw is refl
+dist_answered part P p = only_lines (is_mrac part.task.kind) (dist_lines part.task.name (sizes_of (row_of part.live.cells 0))) NoAnswer P p
 
-pub card_line_of : (part : SketchPart) → part.task.kind ≡ Hll
-    → line_of_card part ≡ Ok (card_line part.task.name (zeros_of (row_of part.live.cells 0)) (z_of (row_of part.live.cells 0)) (raw_of part.live.bits (z_of (row_of part.live.cells 0))))
+pub card_answered : (part : SketchPart) (P : List ℕ → Type 0)
+    → P (card_line part.task.name (zeros_of (row_of part.live.cells 0)) (z_of (row_of part.live.cells 0)) (raw_of part.live.bits (z_of (row_of part.live.cells 0))))
+    → IfOk (line_of_card part) P
 unfolding line_of_card
-card_line_of part is = rw is refl
+card_answered part P p =
+    let cells = row_of part.live.cells 0 in
+    only_lines (is_hll part.task.kind) (card_line part.task.name (zeros_of cells) (z_of cells) (raw_of part.live.bits (z_of cells))) NoAnswer P p
+
+reply_line : (keyed : Bool) (name : List ℕ) (reply : Option Reply) (P : List ℕ → Type 0) → ((r : Reply) → reply ≡ Some r → P (query_line name r)) → IfOk (line_of_reply keyed name reply) P
+reply_line keyed name None P p = tt
+reply_line true name (Some reply) P p = p reply refl
+reply_line false name (Some reply) P p = tt
+
+pub query_answered : (hash_key : List ℕ) (at : Pattern) (part : SketchPart) (P : List ℕ → Type 0)
+    → ((reply : Reply) → reply_of hash_key at part ≡ Some reply → P (query_line part.task.name reply)) → IfOk (line_of_query hash_key at part) P
+unfolding line_of_query
+query_answered hash_key at part P p = reply_line (bytes_eq at.mask part.task.key) part.task.name (reply_of hash_key at part) P p
 
 -- ---- outcomes
 
-pub refused_so : (answer : Contents → Answer) (cells : Option Contents) (before : Option (List ℕ)) (outcome : Outcome) (refusal : Refusal)
-    → outcome ≡ Ok (Err refusal) → ((told : Contents) → answer told ≡ Err refusal) → Replies answer cells before outcome before
-refused_so answer cells before outcome refusal is all = record {
-  verdict = λ told. subst (λ a. Judges a before outcome before) (sym (all told)) (is, stays_same before);
-  sent = told_all cells (λ told. IfOk (answer told) (λ lines. Sends before lines outcome before))
-      (λ told. subst (λ (a : Answer). IfOk a (λ lines. Sends before lines outcome before)) (sym (all told)) tt);
+-- the task of the name does not answer
+pub refused_by : (hash_key name : List ℕ) (ask : Ask) (view : View) (told : Contents) (placed : PlacedTask) (refusal : Refusal)
+    → part_named name (parts_in told view) ≡ Some (part_in told placed) → refusal_by ask placed ≡ Some refusal
+    → answer_by name (task_answer hash_key ask) (parts_in told view) ≡ Err refusal
+refused_by hash_key name ask view told placed refusal found is =
+    ap (answer_if_live (task_answer hash_key ask)) found ∙ subst (λ r. Agrees r (task_answer hash_key ask (part_in told placed))) is (agrees hash_key ask placed told)
+
+pub refused_so : (answer : Contents → Answer) (cells : Option Contents) (before : Option (List ℕ)) (refusal : Refusal)
+    → ((told : Contents) → answer told ≡ Err refusal) → Replies answer cells before (Ok (Err refusal)) before
+refused_so answer cells before refusal all = record {
+  verdict = λ told. subst (λ a. Judges a before (Ok (Err refusal)) before) (sym (all told)) (refl, stays_same before);
+  sent = told_all cells (λ told. IfOk (answer told) (λ lines. Sends {T = Result (Unit {0}) Refusal} {E = Stop} before lines (Ok (Err refusal)) before))
+      (λ told. subst (λ (a : Answer). IfOk a (λ lines. Sends {T = Result (Unit {0}) Refusal} {E = Stop} before lines (Ok (Err refusal)) before)) (sym (all told)) tt);
 }
 
-pub allowed_ok : (answer : Answer) (before after : Option (List ℕ)) (outcome : Outcome) (lines : List ℕ) → IsAllowed outcome → answer ≡ Ok lines → Judges answer before outcome after
-allowed_ok answer before after outcome lines allowed is = subst (λ a. Judges a before outcome after) (sym is) allowed
+answered_so : (answer : Answer) (P Q : List ℕ → Type 0) → ((lines : List ℕ) → P lines → Q lines) → IfOk answer P → IfOk answer Q
+answered_so (Ok lines) P Q step p = step lines p
+answered_so (Err refusal) P Q step p = tt
 
--- a read-out that was carried out
-pub sent_so : (answer : Contents → Answer) (cells : Option Contents) (before after : Option (List ℕ)) (lines : Contents → List ℕ)
-    → ((told : Contents) → answer told ≡ Ok (lines told)) → IfSome cells (λ told. Sends {T = Result (Unit {0}) Refusal} {E = Stop} before (lines told) (Ok (Ok tt)) after)
-    → Replies answer cells before (Ok (Ok tt)) after
-sent_so answer cells before after lines all sent = record {
-  verdict = λ told. allowed_ok (answer told) before after (Ok (Ok tt)) (lines told) tt (all told);
-  sent = told_then cells (λ told. Sends {T = Result (Unit {0}) Refusal} {E = Stop} before (lines told) (Ok (Ok tt)) after)
-      (λ told. IfOk (answer told) (λ l. Sends {T = Result (Unit {0}) Refusal} {E = Stop} before l (Ok (Ok tt)) after))
-      (λ told p. subst (λ (a : Answer). IfOk a (λ l. Sends {T = Result (Unit {0}) Refusal} {E = Stop} before l (Ok (Ok tt)) after)) (sym (all told)) p) sent;
-}
+-- lines that were sent, or not all of them
+sent_so : (answer : Answer) (before after : Option (List ℕ)) (sent : Result (Unit {0}) Stop) → Agrees None answer → Judges answer before (outcome_of_sent sent) after
+sent_so (Ok lines) before after (Ok x) told = tt
+sent_so (Ok lines) before after (Err stop) told = tt
+sent_so (Err refusal) before after sent told = absurd told
 
--- one that a fault stopped
-pub stopped_so : (answer : Contents → Answer) (cells : Option Contents) (before after : Option (List ℕ)) (lines : Contents → List ℕ) (outcome : Outcome) (stop : Stop)
-    → outcome ≡ Err stop → ((told : Contents) → answer told ≡ Ok (lines told))
-    → IfSome cells (λ told. Sends {T = Unit {0}} {E = Stop} before (lines told) (Err stop) after)
-    → Replies answer cells before outcome after
-stopped_so answer cells before after lines outcome stop is all sent =
-    subst (λ (o : Outcome). Replies answer cells before o after) (sym is) (record {
-      verdict = λ told. allowed_ok (answer told) before after (Err stop) (lines told) tt (all told);
-      sent = told_then cells (λ told. Sends {T = Unit {0}} {E = Stop} before (lines told) (Err stop) after)
-          (λ told. IfOk (answer told) (λ l. Sends {T = Result (Unit {0}) Refusal} {E = Stop} before l (Err stop) after))
-          (λ told p. subst (λ (a : Answer). IfOk a (λ l. Sends {T = Result (Unit {0}) Refusal} {E = Stop} before l (Err stop) after)) (sym (all told)) p) sent;
+sends_so : (before after : Option (List ℕ)) (lines : List ℕ) (sent : Result (Unit {0}) Stop) → Sends before lines sent after → Sends before lines (outcome_of_sent sent) after
+sends_so before after lines (Ok x) sends = sends
+sends_so before after lines (Err stop) sends = sends
+
+-- the lines of the task of the name were sent, or a fault stopped them
+pub served_so : (hash_key name : List ℕ) (ask : Ask) (view : View) (at : ℕ) (cells : Option Contents) (before after : Option (List ℕ)) (sent : Result (Unit {0}) Stop) (outcome : Outcome)
+    → Serves name ask view at → outcome ≡ outcome_of_sent sent
+    → IfSome cells (λ told. IfOk (task_answer hash_key ask (part_in told (task_in view at))) (λ lines. Sends before lines sent after))
+    → Replies (λ told. answer_by name (task_answer hash_key ask) (parts_in told view)) cells before outcome after
+served_so hash_key name ask view at cells before after sent outcome serves is sends =
+    let answer : Contents → Answer = λ told. task_answer hash_key ask (part_in told (task_in view at)) in
+    let same : (told : Contents) → answer_by name (task_answer hash_key ask) (parts_in told view) ≡ answer told = λ told. ap (answer_if_live (task_answer hash_key ask)) (serves.found told) in
+    subst (λ (o : Outcome). Replies (λ told. answer_by name (task_answer hash_key ask) (parts_in told view)) cells before o after) (sym is) (record {
+      verdict = λ told. subst (λ a. Judges a before (outcome_of_sent sent) after) (sym (same told))
+          (sent_so (answer told) before after sent (subst (λ r. Agrees r (answer told)) serves.answers (agrees hash_key ask (task_in view at) told)));
+      sent = told_then cells (λ told. IfOk (answer told) (λ lines. Sends before lines sent after))
+          (λ told. IfOk (answer_by name (task_answer hash_key ask) (parts_in told view)) (λ lines. Sends before lines (outcome_of_sent sent) after))
+          (λ told p. subst (λ (a : Answer). IfOk a (λ lines. Sends before lines (outcome_of_sent sent) after)) (sym (same told))
+          (answered_so (answer told) (λ lines. Sends before lines sent after) (λ lines. Sends before lines (outcome_of_sent sent) after)
+          (λ lines. sends_so before after lines sent) p)) sends;
     })
+
+pub stop_so : (sent : Result (Unit {0}) Stop) (outcome : Outcome) (P : Stop → Type 0) → outcome ≡ outcome_of_sent sent → IfErr sent P → IfErr outcome P
+stop_so (Ok x) outcome P is p = subst (λ (o : Outcome). IfErr o P) (sym is) tt
+stop_so (Err stop) outcome P is p = subst (λ (o : Outcome). IfErr o P) (sym is) p
 
 -- ---- masks that differ
 
@@ -218,70 +229,3 @@ other_mask a b true e h =
 -- two masks that are not the same
 pub masks_differ : (a b : List ℕ) → true ≡ not (bytes_eq a b && bytes_eq (mask_bytes_of a) (mask_bytes_of b)) → bytes_eq a b ≡ false
 masks_differ a b h = other_mask a b (bytes_eq a b) refl h
-
--- the outcomes that calls tell by their faults
-pub refusal_told : (result : Result (Unit {0}) ReadFault) (refusal : Refusal) → IsErrAnd result (λ fault. outcome_of (Err fault) ≡ Ok (Err refusal))
-    → outcome_of result ≡ Ok (Err refusal)
-refusal_told (Ok x) refusal told = absurd told
-refusal_told (Err fault) refusal told = told
-
-pub stop_told : (result : Result (Unit {0}) ReadFault) (stop : Stop) → IsErrAnd result (λ fault. outcome_of (Err fault) ≡ Err stop) → outcome_of result ≡ Err stop
-stop_told (Ok x) stop told = absurd told
-stop_told (Err fault) stop told = told
-
--- no stop at a refusal, and one at a stop
-pub no_stop : (outcome : Outcome) (refusal : Refusal) (P : Stop → Type 0) → outcome ≡ Ok (Err refusal) → IfErr outcome P
-no_stop outcome refusal P is = subst (λ (o : Outcome). IfErr o P) (sym is) tt
-
-pub one_stop : (outcome : Outcome) (stop : Stop) (P : Stop → Type 0) → outcome ≡ Err stop → P stop → IfErr outcome P
-one_stop outcome stop P is p = subst (λ (o : Outcome). IfErr o P) (sym is) p
-
--- lines told through the answer
-pub told_line : (cells : Option Contents) (answer : Contents → Answer) (lines : Contents → List ℕ) (P : List ℕ → Type 0)
-    → ((told : Contents) → answer told ≡ Ok (lines told)) → IfSome cells (λ told. IfOk (answer told) P) → IfSome cells (λ told. P (lines told))
-told_line cells answer lines P all sent =
-    told_then cells (λ told. IfOk (answer told) P) (λ told. P (lines told)) (λ told p. subst (λ (a : Answer). IfOk a P) (all told) p) sent
-
--- a read-out that reads no register
-pub shown_so : (result : Result (Unit {0}) ReadFault) (cells : Option Contents) (before after : Option (List ℕ)) (lines : List ℕ)
-    → IfErr result (λ fault. fault ≡ Write) → Sends before lines result after → Replies (λ told. Ok lines) cells before (outcome_of result) after
-shown_so (Ok x) cells before after lines write sent =
-    sent_so (λ told. Ok lines) cells before after (λ told. lines) (λ told. refl)
-    (told_all cells (λ told. Sends {T = Result (Unit {0}) Refusal} {E = Stop} before lines (Ok (Ok tt)) after) (λ told. sent))
-shown_so (Err fault) cells before after lines write sent =
-    stopped_so (λ told. Ok lines) cells before after (λ told. lines) (outcome_of (Err fault)) stops.Write (ap (λ f. outcome_of (Err f)) write) (λ told. refl)
-    (told_all cells (λ told. Sends {T = Unit {0}} {E = Stop} before lines (Err stops.Write) after) (λ told. sent))
-
-pub shown_stop : (result : Result (Unit {0}) ReadFault) (P : Stop → Type 0) → IfErr result (λ fault. fault ≡ Write) → OnErr result (P stops.Write) → IfErr (outcome_of result) P
-shown_stop (Ok x) P write stop = tt
-shown_stop (Err fault) P write stop = subst (λ f. IfErr (outcome_of (Err f)) P) (sym write) stop
-
--- ---- requests
-
-pub task_replies : (hash_key : List ℕ) (view : View) (request : Request) (name : List ℕ) (ask asked : Ask) (cells : Option Contents) (before after : Option (List ℕ)) (outcome : Outcome)
-    → request ≡ Task name ask → ask ≡ asked
-    → Replies (λ told. answer_by name (task_answer hash_key asked) (parts_in told view)) cells before outcome after
-    → Replies (λ told. answer_to hash_key request view (parts_in told view)) cells before outcome after
-unfolding answer_to
-task_replies hash_key view request name ask asked cells before after outcome is asks replies =
-    subst (λ (r : Request). Replies (λ told. answer_to hash_key r view (parts_in told view)) cells before outcome after) (sym is)
-    (subst (λ (a : Ask). Replies (λ told. answer_by name (task_answer hash_key a) (parts_in told view)) cells before outcome after) (sym asks) replies)
-
-pub view_replies : (hash_key : List ℕ) (view : View) (request asked : Request) (lines : List ℕ) (cells : Option Contents) (before after : Option (List ℕ)) (outcome : Outcome)
-    → request ≡ asked → ((parts : List SketchPart) → answer_to hash_key asked view parts ≡ Ok lines)
-    → Replies (λ told. Ok lines) cells before outcome after
-    → Replies (λ told. answer_to hash_key request view (parts_in told view)) cells before outcome after
-view_replies hash_key view request asked lines cells before after outcome is all replies =
-    subst (λ (r : Request). Replies (λ told. answer_to hash_key r view (parts_in told view)) cells before outcome after) (sym is) (record {
-      verdict = λ told. subst (λ (a : Answer). Judges a before outcome after) (sym (all (parts_in told view))) (replies.verdict told);
-      sent = told_then cells (λ told. Sends before lines outcome after) (λ told. IfOk (answer_to hash_key asked view (parts_in told view)) (λ l. Sends before l outcome after))
-          (λ told p. subst (λ (a : Answer). IfOk a (λ l. Sends before l outcome after)) (sym (all (parts_in told view))) p) replies.sent;
-    })
-
-pub shows : (hash_key : List ℕ) (view : View) (parts : List SketchPart) → answer_to hash_key Show view parts ≡ Ok (show_lines view)
-unfolding answer_to
-shows hash_key view parts = refl
-
-pub stats : (hash_key : List ℕ) (view : View) (parts : List SketchPart) → answer_to hash_key Stat view parts ≡ Ok (stat_lines view)
-unfolding answer_to
-stats hash_key view parts = refl

@@ -1,5 +1,5 @@
 -- The tally of a row, one cell after the other.
-use Rattle.std.proofs.Common.{◌≡◌, ℕ, ◌+◌, ◌-◌, ◌*◌, ◌^◌, ◌<◌, ◌≤◌, ◌==◌, List, [], length, take, Option, Result, None, Some, IfSome, refl, ap, ap₂, sym, ◌∙◌, subst, arith}
+use Rattle.std.proofs.Common.{◌≡◌, ℕ, ◌+◌, ◌-◌, ◌*◌, ◌^◌, ◌<◌, ◌≤◌, ◌==◌, List, [], length, take, Option, Result, None, Some, IfSome, IfOk, refl, ap, ap₂, sym, ◌∙◌, subst, arith}
 use Rattle.std.specs.Result.{IsErr}
 use Rattle.std.proofs.lemmas.Bool.{cond_both}
 use Rattle.std.proofs.lemmas.List.{get_or-map, take_all}
@@ -14,10 +14,13 @@ use Rattle.sketch_defs.specs.Cells.{row_of}
 use Rattle.sketch_defs.proofs.TallyLemmas.{zeros_more, z_more}
 use Rattle.readout.specs.declared.views.Placed.{Placed}
 use Rattle.readout.specs.declared.views.Side.TheVariants.{Live}
-use Rattle.readout.specs.PlacedTasks.{PlacedTask, no_place, place_at, live_bits, register_at, row_contents, rows_contents}
+use Rattle.readout.specs.PlacedTasks.{PlacedTask, part_in, no_place, place_at, live_bits, register_at, row_contents, rows_contents}
 use Rattle.readout.specs.Lines.{card_line}
+use Rattle.readout.specs.Answers.{line_of_card}
+use Rattle.readout.proofs.AnswerLemmas.{card_answered}
 use Rattle.readout.proofs.PieceLemmas.{sends_at_err}
-use Rattle.readout.proofs.CellLemmas.{told_more, told_all, told_then, length_row, row_at}
+use Rattle.readout.proofs.ToldLemmas.{told_more, told_all, told_then, both_told}
+use Rattle.readout.proofs.CellLemmas.{length_row, row_at}
 
 -- ---- the row
 
@@ -85,7 +88,7 @@ z_fits z size bits is high = omega (arith, pow-add 2 33 bits, ap (λ n. n * 2 ^ 
 
 -- ---- the line
 
-abbrev pub card_of : PlacedTask → Contents → List ℕ
+abbrev card_of : PlacedTask → Contents → List ℕ
 card_of placed told =
     let cells = row_of (rows_contents told Live placed) 0 in
     card_line placed.task.name (zeros_of cells) (z_of cells) (raw_of (live_bits placed) (z_of cells))
@@ -98,19 +101,15 @@ card_as told placed line count z some is are sums =
     let row = row_first told placed some in
     is ∙ ap₂ (λ n m. card_line placed.task.name n m (raw_of (live_bits placed) m)) (are ∙ ap zeros_of (sym row)) (sums ∙ ap z_of (sym row))
 
-both_told : (cells : Option Contents) (P Q : Contents → Type 0) → IfSome cells P → IfSome cells Q → IfSome cells (λ told. P told × Q told)
-both_told None P Q p q = tt
-both_told (Some told) P Q p q = (p, q)
-
 pub card_sent : {T E : Type 0} (result : Result T E) (cells : Option Contents) (a b : Option (List ℕ)) (placed : PlacedTask) (line : List ℕ) (count z : ℕ) → 0 < length placed.places
     → line ≡ card_line placed.task.name count z (raw_of (live_bits placed) z)
     → IfSome cells (λ told. count ≡ zeros_of (row_contents told Live (place_at placed 0)))
     → IfSome cells (λ told. z ≡ z_of (row_contents told Live (place_at placed 0)))
-    → Sends a line result b → IfSome cells (λ told. Sends a (card_of placed told) result b)
+    → Sends a line result b → IfSome cells (λ told. IfOk (line_of_card (part_in told placed)) (λ l. Sends a l result b))
 card_sent result cells a b placed line count z some is are sums sent =
     told_then cells (λ told. (count ≡ zeros_of (row_contents told Live (place_at placed 0))) × (z ≡ z_of (row_contents told Live (place_at placed 0))))
-    (λ told. Sends a (card_of placed told) result b)
-    (λ told p. subst (λ t. Sends a t result b) (card_as told placed line count z some is p.0 p.1) sent)
+    (λ told. IfOk (line_of_card (part_in told placed)) (λ l. Sends a l result b))
+    (λ told p. card_answered (part_in told placed) (λ l. Sends a l result b) (subst (λ t. Sends a t result b) (card_as told placed line count z some is p.0 p.1) sent))
     (both_told cells (λ told. count ≡ zeros_of (row_contents told Live (place_at placed 0))) (λ told. z ≡ z_of (row_contents told Live (place_at placed 0))) are sums)
 
 some_card : (placed : PlacedTask) (told : Contents) → 0 < length (card_of placed told)
@@ -118,7 +117,7 @@ unfolding card_line
 some_card placed told = omega arith
 
 pub card_unsent : {T E : Type 0} (result : Result T E) (cells : Option Contents) (a : Option (List ℕ)) (placed : PlacedTask) → IsErr result
-    → IfSome cells (λ told. Sends a (card_of placed told) result a)
+    → IfSome cells (λ told. IfOk (line_of_card (part_in told placed)) (λ l. Sends a l result a))
 card_unsent result cells a placed failed =
-    told_all cells (λ told. Sends a (card_of placed told) result a)
-    (λ told. sends_at_err result a a (card_of placed told) failed (none_in_part a a (card_of placed told) (some_card placed told) (stays_same a)))
+    told_all cells (λ told. IfOk (line_of_card (part_in told placed)) (λ l. Sends a l result a))
+    (λ told. card_answered (part_in told placed) (λ l. Sends a l result a) (sends_at_err result a a (card_of placed told) failed (none_in_part a a (card_of placed told) (some_card placed told) (stays_same a))))

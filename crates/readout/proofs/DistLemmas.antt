@@ -1,5 +1,5 @@
 -- The sizes of rising cells, one run after the other.
-use Rattle.std.proofs.Common.{◌≡◌, ◌≢◌, ℕ, zero, suc, ◌+◌, ◌-◌, ◌^◌, ◌<◌, ◌≤◌, List, [], ◌∷◌, ◌++◌, length, take, drop, get_or, replicate, codes, Option, Result, Some, IfSome, refl, ap, ap₂, sym, ◌∙◌, subst, arith, append_assoc, add-one, length-drop}
+use Rattle.std.proofs.Common.{◌≡◌, ◌≢◌, ℕ, zero, suc, ◌+◌, ◌-◌, ◌^◌, ◌<◌, ◌≤◌, List, [], ◌∷◌, ◌++◌, length, take, drop, get_or, replicate, codes, Option, Result, None, Some, IfSome, IfOk, refl, ap, ap₂, sym, ◌∙◌, subst, arith, append_assoc, add-one, length-drop}
 use Rattle.std.specs.List.{All, flat_map}
 use Rattle.std.specs.List.Sorted.{IsSorted}
 use Rattle.std.specs.Ordering.{nat_cmp}
@@ -19,10 +19,13 @@ use Rattle.sketch_defs.proofs.EstimateLemmas.{power_le}
 use Rattle.sketch_defs.proofs.SizeLemmas.{sizes_of_run}
 use Rattle.readout.specs.declared.views.Placed.{Placed}
 use Rattle.readout.specs.declared.views.Side.TheVariants.{Live}
-use Rattle.readout.specs.PlacedTasks.{PlacedTask, place_at, live_bits, row_contents, rows_contents}
+use Rattle.readout.specs.PlacedTasks.{PlacedTask, part_in, place_at, live_bits, row_contents, rows_contents}
 use Rattle.readout.specs.Lines.{size_line, dist_lines}
+use Rattle.readout.specs.Answers.{lines_of_dist}
+use Rattle.readout.proofs.AnswerLemmas.{dist_answered}
 use Rattle.readout.proofs.PieceLemmas.{put_behind, sends_at_err, block_sent, block_cut}
-use Rattle.readout.proofs.CellLemmas.{told_more, told_all, told_then, length_row, row_at}
+use Rattle.readout.proofs.ToldLemmas.{told_more, told_all, told_then}
+use Rattle.readout.proofs.CellLemmas.{length_row, row_at}
 use Rattle.readout.proofs.CardLemmas.{CellAt, row_whole, row_first}
 
 -- ---- the cells read
@@ -167,31 +170,30 @@ sizes_unsent result a b name head sizes failed is front =
 
 -- ---- the task
 
-abbrev pub dist_of : PlacedTask → Contents → List ℕ
+abbrev dist_of : PlacedTask → Contents → List ℕ
 dist_of placed told = dist_lines placed.task.name (sizes_of (row_of (rows_contents told Live placed) 0))
 
 pub dist_sent : {T E : Type 0} (result : Result T E) (cells : Option Contents) (a b : Option (List ℕ)) (placed : PlacedTask) (read sorted : List ℕ) → 0 < length placed.places
     → sizes_of sorted ≡ sizes_of read → IfSome cells (λ told. read ≡ row_contents told Live (place_at placed 0))
-    → Sends a (dist_lines placed.task.name (sizes_of sorted)) result b → IfSome cells (λ told. Sends a (dist_of placed told) result b)
+    → Sends a (dist_lines placed.task.name (sizes_of sorted)) result b → IfSome cells (λ told. IfOk (lines_of_dist (part_in told placed)) (λ lines. Sends a lines result b))
 dist_sent result cells a b placed read sorted some same is sent =
-    told_then cells (λ told. read ≡ row_contents told Live (place_at placed 0)) (λ told. Sends a (dist_of placed told) result b)
-    (λ told p. subst (λ t. Sends a t result b)
-    (ap (dist_lines placed.task.name) (same ∙ ap sizes_of (p ∙ sym (row_first told placed some)))) sent) is
+    told_then cells (λ told. read ≡ row_contents told Live (place_at placed 0)) (λ told. IfOk (lines_of_dist (part_in told placed)) (λ lines. Sends a lines result b))
+    (λ told p. dist_answered (part_in told placed) (λ lines. Sends a lines result b) (subst (λ t. Sends a t result b)
+    (ap (dist_lines placed.task.name) (same ∙ ap sizes_of (p ∙ sym (row_first told placed some)))) sent)) is
 
 some_dist : (placed : PlacedTask) (told : Contents) → 0 < length (dist_of placed told)
 unfolding dist_lines
 some_dist placed told = omega arith
 
 pub dist_unsent : {T E : Type 0} (result : Result T E) (cells : Option Contents) (a : Option (List ℕ)) (placed : PlacedTask) → IsErr result
-    → IfSome cells (λ told. Sends a (dist_of placed told) result a)
+    → IfSome cells (λ told. IfOk (lines_of_dist (part_in told placed)) (λ lines. Sends a lines result a))
 dist_unsent result cells a placed failed =
-    told_all cells (λ told. Sends a (dist_of placed told) result a)
-    (λ told. sends_at_err result a a (dist_of placed told) failed (none_in_part a a (dist_of placed told) (some_dist placed told) (stays_same a)))
+    told_all cells (λ told. IfOk (lines_of_dist (part_in told placed)) (λ lines. Sends a lines result a))
+    (λ told. dist_answered (part_in told placed) (λ lines. Sends a lines result a) (sends_at_err result a a (dist_of placed told) failed (none_in_part a a (dist_of placed told) (some_dist placed told) (stays_same a))))
 
 -- ---- the room
 
-pub room_for : (found : Option PlacedTask) (placed : PlacedTask) (bits room : ℕ) → found ≡ Some placed → IfSome found (λ s. live_bits s ≤ bits) → 2 ^ bits ≤ room
-    → 2 ^ live_bits placed ≤ room
-room_for found placed bits room is enough has =
-    let fits : live_bits placed ≤ bits = rw is at enough in
-    omega (arith, power_le (live_bits placed) bits fits, has)
+pub room_for : (found : Option PlacedTask) (bits room : ℕ) → IfSome found (λ placed. live_bits placed ≤ bits) → 2 ^ bits ≤ room
+    → IfSome found (λ placed. 2 ^ live_bits placed ≤ room)
+room_for None bits room enough has = tt
+room_for (Some placed) bits room enough has = omega (arith, power_le (live_bits placed) bits enough, has)

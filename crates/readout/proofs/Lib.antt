@@ -1,5 +1,6 @@
 mod AnswerLemmas
 mod CardLemmas
+mod ToldLemmas
 mod CellLemmas
 mod DistLemmas
 mod PieceLemmas

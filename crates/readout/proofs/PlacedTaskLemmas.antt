@@ -65,38 +65,6 @@ below_where i n = cond_both (nat_lt i n) (Some i) None (λ o. IfSome o (λ at. a
 pub found_below : (name : List ℕ) (tasks : List PlacedTask) → IfSome (position (is_named name) tasks) (λ at. at < length tasks)
 found_below name tasks = below_where (position_or_len (is_named name) tasks) (length tasks)
 
--- ---- rows
-
-passed : (fails : Bool) (fault : TaskFault) (rest : Option TaskFault) → (if fails then Some fault else rest) ≡ None → fails ≡ false
-passed true fault rest e = let no : ⊥ = cc in absurd no
-passed false fault rest e = refl
-
-not_false : (b : Bool) → not b ≡ false → b ≡ true
-not_false true e = refl
-not_false false e = absurd (false≢true (sym e))
-
-rows_allowed : (task : Sketch) → first_fault task ≡ None → (1 ≤ task.rows) × (task.rows ≤ most_rows task.kind)
-rows_allowed task sound =
-    let allowed = not_false (allows_rows task.kind task.rows) (passed (not (allows_rows task.kind task.rows)) faults.Rows _ sound) in
-    let both = both_true (nat_le 1 task.rows) (nat_le task.rows (most_rows task.kind)) allowed in
-    (grind (arith, nat_tests, both.0), grind (arith, nat_tests, both.1))
-
-most_few : (kind : Kind) → most_rows kind ≤ 4
-most_few Cms = omega arith
-most_few SumaxSum = omega arith
-most_few SumaxMax = omega arith
-most_few Bloom = omega arith
-most_few Mrac = omega arith
-most_few Hll = omega arith
-most_few FlagOr = omega arith
-most_few FlagAnd = omega arith
-
-pub some_rows : (task : Sketch) → first_fault task ≡ None → 1 ≤ task.rows
-some_rows task sound = (rows_allowed task sound).0
-
-pub few_rows : (task : Sketch) → first_fault task ≡ None → task.rows ≤ 4
-few_rows task sound = omega (arith, (rows_allowed task sound).1, most_few task.kind)
-
 -- ---- what a fit task has
 
 placed_task_fit : (view : View) (at : ℕ) → IsFit view → at < length view.tasks → IsPlacedTask view.geometry (task_in view at)

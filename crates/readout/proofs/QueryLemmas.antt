@@ -1,5 +1,5 @@
 -- The cells of a key, one row after the other.
-use Rattle.std.proofs.Common.{◌≡◌, ◌≢◌, ℕ, ◌+◌, ◌^◌, ◌<◌, List, [], ◌∷◌, ◌++◌, length, map, drop, slice_index, true, Ok, Option, Result, Some, IfSome, IfOk, refl, ap, sym, ◌∙◌, subst, arith, append_assoc, add-one}
+use Rattle.std.proofs.Common.{◌≡◌, ◌≢◌, ℕ, ◌+◌, ◌^◌, ◌<◌, List, [], ◌∷◌, ◌++◌, length, map, drop, slice_index, unwrap_or, Ok, Option, Result, Some, IfSome, IfOk, refl, ap, sym, ◌∙◌, subst, arith, append_assoc, add-one}
 use Rattle.std.specs.Result.{IsErr}
 use Rattle.std.specs.Str.{bytes_eq}
 use Rattle.std.proofs.Math.Seq.{drop-cons}
@@ -22,10 +22,10 @@ use Rattle.task_filters.specs.Filters.{Pattern}
 use Rattle.readout.specs.declared.views.Side.TheVariants.{Live}
 use Rattle.readout.specs.PlacedTasks.{PlacedTask, no_place, place_at, part_in, live_bits, register_at, row_contents, rows_contents}
 use Rattle.readout.specs.Lines.{query_line}
-use Rattle.readout.specs.Answers.{Answer, line_of_query}
+use Rattle.readout.specs.Answers.{line_of_query}
 use Rattle.readout.proofs.PieceLemmas.{sends_at_err}
-use Rattle.readout.proofs.CellLemmas.{told_more, told_all, told_then}
-use Rattle.readout.proofs.AnswerLemmas.{query_line_of, some_query_line}
+use Rattle.readout.proofs.ToldLemmas.{told_more, told_all, told_then}
+use Rattle.readout.proofs.AnswerLemmas.{query_answered}
 
 -- these cells are those of the rows before this one
 abbrev pub FoundSoFar : ℕ → PlacedTask → ℕ → List ℕ → Contents → Type 0
@@ -88,39 +88,30 @@ hash_as : (hash_key : List ℕ) (placed : PlacedTask) (vector : List ℕ) (h : �
 unfolding key_hash
 hash_as hash_key placed vector h is = is
 
--- the reply is that of the cells that the registers tell
-line_as : (told : Contents) (hash_key : List ℕ) (at : Pattern) (placed : PlacedTask) (h : ℕ) (found : List ℕ) (reply : Reply)
-    → bytes_eq at.mask placed.task.key ≡ true → h ≡ hash_of hash_key (and_bytes at.value (mask_bytes_of placed.task.key))
-    → answer_of placed.task.kind found h ≡ Some reply → found ≡ cells_found h (live_bits placed) (rows_contents told Live placed)
-    → line_of_query hash_key at (part_in told placed) ≡ Ok (query_line placed.task.name reply)
-line_as told hash_key at placed h found reply keyed hashed is all =
-    let hash = hash_as hash_key placed at.value h hashed in
-    query_line_of hash_key at (part_in told placed) reply keyed
-    (ap (λ k. answer_of placed.task.kind (cells_found k (live_bits placed) (rows_contents told Live placed)) k) (sym hash)
-    ∙ (ap (λ f. answer_of placed.task.kind f h) (sym all) ∙ is))
-
 pub query_sent : {T E : Type 0} (result : Result T E) (cells : Option Contents) (a b : Option (List ℕ)) (hash_key : List ℕ) (at : Pattern) (placed : PlacedTask) (h : ℕ) (found line : List ℕ) (reply : Reply)
-    → bytes_eq at.mask placed.task.key ≡ true → h ≡ hash_of hash_key (and_bytes at.value (mask_bytes_of placed.task.key))
+    → h ≡ hash_of hash_key (and_bytes at.value (mask_bytes_of placed.task.key))
     → answer_of placed.task.kind found h ≡ Some reply → line ≡ query_line placed.task.name reply
     → IfSome cells (λ told. found ≡ cells_found h (live_bits placed) (rows_contents told Live placed))
     → Sends a line result b → IfSome cells (λ told. IfOk (line_of_query hash_key at (part_in told placed)) (λ l. Sends a l result b))
-query_sent result cells a b hash_key at placed h found line reply keyed hashed is put all sent =
+query_sent result cells a b hash_key at placed h found line reply hashed is put all sent =
     told_then cells (λ told. found ≡ cells_found h (live_bits placed) (rows_contents told Live placed))
     (λ told. IfOk (line_of_query hash_key at (part_in told placed)) (λ l. Sends a l result b))
-    (λ told p. subst (λ (answer : Answer). IfOk answer (λ l. Sends a l result b)) (sym (line_as told hash_key at placed h found reply keyed hashed is p))
-    (subst (λ l. Sends a l result b) put sent)) all
+    (λ told p. query_answered hash_key at (part_in told placed) (λ l. Sends a l result b)
+    (λ r e.
+    let hash = hash_as hash_key placed at.value h hashed in
+    let same : Some reply ≡ Some r =
+    sym is ∙ (ap (λ f. answer_of placed.task.kind f h) p
+    ∙ (ap (λ k. answer_of placed.task.kind (cells_found k (live_bits placed) (rows_contents told Live placed)) k) hash ∙ e)) in
+    subst (λ l. Sends a l result b) (put ∙ ap (query_line placed.task.name) (ap (λ (o : Option Reply). unwrap_or o reply) same)) sent)) all
 
 some_line : (name : List ℕ) (reply : Reply) → 0 < length (query_line name reply)
 unfolding query_line
 some_line name reply = omega arith
 
-pub query_unsent : {T E : Type 0} (result : Result T E) (cells : Option Contents) (a : Option (List ℕ)) (hash_key : List ℕ) (at : Pattern) (placed : PlacedTask)
-    → (placed.task.kind ≢ Mrac) → (placed.task.kind ≢ Hll) → bytes_eq at.mask placed.task.key ≡ true → IsErr result
+pub query_unsent : {T E : Type 0} (result : Result T E) (cells : Option Contents) (a : Option (List ℕ)) (hash_key : List ℕ) (at : Pattern) (placed : PlacedTask) → IsErr result
     → IfSome cells (λ told. IfOk (line_of_query hash_key at (part_in told placed)) (λ l. Sends a l result a))
-query_unsent result cells a hash_key at placed no_counters no_ranks keyed failed =
+query_unsent result cells a hash_key at placed failed =
     told_all cells (λ told. IfOk (line_of_query hash_key at (part_in told placed)) (λ l. Sends a l result a))
-    (λ told.
-    let line = some_query_line hash_key at (part_in told placed) no_counters no_ranks keyed in
-    subst (λ (answer : Answer). IfOk answer (λ l. Sends a l result a)) (sym line.1)
-    (sends_at_err result a a (query_line placed.task.name line.0) failed
-    (none_in_part a a (query_line placed.task.name line.0) (some_line placed.task.name line.0) (stays_same a))))
+    (λ told. query_answered hash_key at (part_in told placed) (λ l. Sends a l result a)
+    (λ reply e. sends_at_err result a a (query_line placed.task.name reply) failed
+    (none_in_part a a (query_line placed.task.name reply) (some_line placed.task.name reply) (stays_same a))))

@@ -1,7 +1,8 @@
 -- What a read-out answers: lines, or why there are none. Lines of tasks are those of their parts, whatever stands where.
-use Rattle.std.specs.Prelude.{ℕ, ◌^◌, Bool, true, false, if◌then◌else◌, List, ◌++◌, codes, Option, None, Some, Result, Ok, Err}
+use Rattle.std.specs.Prelude.{◌≡◌, ℕ, ◌<◌, ◌^◌, Bool, true, false, if◌then◌else◌, List, ◌++◌, length, codes, Option, None, Some, is_some, Result, Ok, Err}
 use Rattle.std.specs.List.{find}
 use Rattle.std.specs.Str.{bytes_eq}
+use Rattle.reg_file.specs.Registers.{Contents}
 use Rattle.task_filters.specs.Filters.{Pattern}
 use Rattle.sketch_defs.specs.declared.answers.Reply.{Reply}
 use Rattle.sketch_defs.specs.declared.kinds.Kind.{Kind}
@@ -14,13 +15,11 @@ use Rattle.readout.specs.declared.refusals.Refusal.{Refusal}
 use Rattle.readout.specs.declared.refusals.Refusal.TheVariants.{Unknown, NoFrozen, NoAnswer, BadKey}
 use Rattle.readout.specs.declared.requests.Ask.{Ask}
 use Rattle.readout.specs.declared.requests.Ask.TheVariants.{Cells, Query, Dist, Card}
-use Rattle.readout.specs.declared.requests.Request.{Request}
-use Rattle.readout.specs.declared.requests.Request.TheVariants.{Task, Show, Stat}
 use Rattle.readout.specs.declared.views.Side.{Side}
 use Rattle.readout.specs.declared.views.Side.TheVariants.{Live, Frozen}
 use Rattle.readout.specs.Parts.{Rows, SketchPart}
-use Rattle.readout.specs.PlacedTasks.{View}
-use Rattle.readout.specs.Lines.{side_word, cells_lines, query_line, dist_lines, card_line, show_lines, stat_lines}
+use Rattle.readout.specs.PlacedTasks.{PlacedTask, View, place_at, task_in, task_named, part_in, parts_in}
+use Rattle.readout.specs.Lines.{side_word, cells_lines, query_line, dist_lines, card_line}
 
 -- lines, or why there are none
 abbrev pub Answer : Type 0
@@ -33,6 +32,12 @@ is_mrac _ = false
 abbrev pub is_hll : Kind → Bool
 is_hll Hll = true
 is_hll _ = false
+
+-- its cells reply to a key value
+abbrev pub answers_keys : Kind → Bool
+answers_keys Mrac = false
+answers_keys Hll = false
+answers_keys _ = true
 
 -- the block over these rows of a task
 abbrev pub lines_of_rows : Side → Sketch → Rows → List ℕ
@@ -87,11 +92,21 @@ task_answer hash_key (Query at) part = line_of_query hash_key at part
 task_answer hash_key Dist part = lines_of_dist part
 task_answer hash_key Card part = line_of_card part
 
--- the answer to a request
-unfoldable pub answer_to : List ℕ → Request → View → List SketchPart → Answer
-answer_to hash_key (Task name ask) view parts = answer_by name (task_answer hash_key ask) parts
-answer_to hash_key Show view parts = Ok (show_lines view)
-answer_to hash_key Stat view parts = Ok (stat_lines view)
+-- why a task does not answer what it is asked, whatever it counted; none where it answers
+abbrev pub refusal_by : Ask → PlacedTask → Option Refusal
+refusal_by (Cells Live) placed = None
+refusal_by (Cells Frozen) placed = if is_some (place_at placed 0).frozen then None else Some NoFrozen
+refusal_by (Query at) placed =
+    if answers_keys placed.task.kind then (if bytes_eq at.mask placed.task.key then None else Some BadKey) else Some NoAnswer
+refusal_by Dist placed = if is_mrac placed.task.kind then None else Some NoAnswer
+refusal_by Card placed = if is_hll placed.task.kind then None else Some NoAnswer
+
+-- the live task of the name stands at this place of the list, and answers what it is asked
+pub record Serves (name : List ℕ) (ask : Ask) (view : View) (at : ℕ) : Type 0 where
+  pub below : at < length view.tasks
+  pub named : task_named name view ≡ Some (task_in view at)
+  pub found : (told : Contents) → part_named name (parts_in told view) ≡ Some (part_in told (task_in view at))
+  pub answers : refusal_by ask (task_in view at) ≡ None
 
 -- ---- refusals as lines
 

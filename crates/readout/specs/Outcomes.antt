@@ -28,6 +28,11 @@ outcome_of (Err faults.BadKey) = Ok (Err BadKey)
 outcome_of (Err faults.Device) = Err Device
 outcome_of (Err faults.Write) = Err Write
 
+-- the outcome where nothing is refused
+abbrev pub outcome_of_sent : Result (Unit {0}) Stop → Outcome
+outcome_of_sent (Ok x) = Ok (Ok x)
+outcome_of_sent (Err stop) = Err stop
+
 -- it was not refused
 abbrev pub IsAllowed : Outcome → Type 0
 IsAllowed (Ok (Ok x)) = Unit {0}

@@ -4,21 +4,22 @@ ghost use Rattle.outside.specs.Faults.{HasCause};
 ghost use Rattle.outside.specs.Sent.{Sends};
 ghost use Rattle.reg_file.specs.Reads.{OnlyReads};
 ghost use Rattle.sketch_defs.specs.declared.kinds.Kind.TheVariants.{Hll};
-ghost use Rattle.sketch_defs.specs.Answers.{zeros_of, z_of, raw_of};
-ghost use Rattle.sketch_defs.specs.Cells.{row_of};
+ghost use Rattle.sketch_defs.specs.Answers.{zeros_of, z_of};
 ghost use Rattle.readout.specs.declared.views.Side.TheVariants.{Live};
-ghost use Rattle.readout.specs.PlacedTasks.{CanRead, task_in, place_in, live_bits, row_contents, rows_contents};
-ghost use Rattle.readout.specs.Lines.{card_line};
-ghost use Rattle.readout.specs.Outcomes.{IsStopOf};
+ghost use Rattle.readout.specs.PlacedTasks.{CanRead, IsFit, IsShaped, task_in, place_in, part_in, parts_in, live_bits, row_contents};
+ghost use Rattle.readout.specs.Answers.{answer_by, line_of_card};
+ghost use Rattle.readout.specs.Outcomes.{IsStopOf, Replies};
 
+use crate::judging::judge;
 use crate::lines::put_card;
 use crate::pieces::{Piece, send_piece};
 use crate::places::{bits_of, cell_count, first_place};
-use crate::refusals::Stop;
+use crate::refusals::{Refusal, Stop, outcome_of_sent};
+use crate::requests::Ask;
 use crate::views::{Side, TaskView};
 use fm_io::Sink;
 use reg_file::{DeviceFault, RegFile};
-use sketch_defs::{Tally, raw_estimate, tally_add};
+use sketch_defs::{Name, Tally, raw_estimate, tally_add};
 
 /// Reads the cells of the task's first row, and answers their tally.
 fn tally_of<V: TaskView, R: RegFile>(
@@ -49,7 +50,7 @@ fn tally_of<V: TaskView, R: RegFile>(
 
 /// Sends the estimate of a task, with what it rests on.
 #[tactic(auto, using(crate::proofs::PlacedTaskLemmas::ranks_bits))]
-pub(crate) fn send_card<V: TaskView, R: RegFile, S: Sink>(
+fn send_card<V: TaskView, R: RegFile, S: Sink>(
     view: &V,
     regs: &mut R,
     at: usize,
@@ -60,9 +61,8 @@ pub(crate) fn send_card<V: TaskView, R: RegFile, S: Sink>(
     ensures reads { OnlyReads R.RegFile regs.old regs.new }
     ensures later { S.faults sink.old ≤ S.faults sink.new }
     ensures cause { IfErr result (IsStopOf R.RegFile S.Sink regs.old regs.new sink.old sink.new) }
-    ensures sent { let placed = task_in (V.seen view.now) at in IfSome (R.contents regs.new) (λ told.
-        let cells = row_of (rows_contents told Live placed) 0 in Sends (S.sent sink.old)
-        (card_line placed.task.name (zeros_of cells) (z_of cells) (raw_of (live_bits placed) (z_of cells))) result (S.sent sink.new)) }
+    ensures sent { IfSome (R.contents regs.new) (λ told. IfOk (line_of_card (part_in told (task_in (V.seen view.now) at)))
+        (λ line. Sends (S.sent sink.old) line result (S.sent sink.new))) }
 {
     let part = first_place(view, at).region;
     let tally = tally_of(view, regs, at, cell_count(part))?;
@@ -71,4 +71,25 @@ pub(crate) fn send_card<V: TaskView, R: RegFile, S: Sink>(
     put_card(&mut piece, view.task(at).name(), tally.zeros, tally.z, raw);
     send_piece(sink, &piece)?;
     Ok(())
+}
+
+/// Tells the estimate of the live task of the name, or why there is none.
+pub(crate) fn tell_card<V: TaskView, R: RegFile, S: Sink>(
+    view: &V,
+    regs: &mut R,
+    name: &Name,
+    sink: &mut S,
+) -> Result<Result<(), Refusal>, Stop>
+    requires fit { IsFit (V.seen view.now) }
+    requires shaped { IsShaped (V.seen view.now).geometry (R.dims regs.old) }
+    ensures replies { Replies (λ told. answer_by name.now line_of_card (parts_in told (V.seen view.now)))
+        (R.contents regs.new) (S.sent sink.old) result (S.sent sink.new) }
+    ensures cause { IfErr result (IsStopOf R.RegFile S.Sink regs.old regs.new sink.old sink.new) }
+    ensures later { S.faults sink.old ≤ S.faults sink.new }
+    ensures reads { OnlyReads R.RegFile regs.old regs.new }
+{
+    match judge(view, name, &Ask::Card) {
+        Ok(at) => outcome_of_sent(send_card(view, regs, at, sink)),
+        Err(refusal) => Ok(Err(refusal)),
+    }
 }

@@ -1,21 +1,24 @@
 //! The cells of a task, as lines.
-ghost use Rattle.std.specs.Prelude.{◌≡◌, ◌^◌, ◌<◌, ◌≤◌, ◌++◌, length, [], IfSome, IfErr};
+ghost use Rattle.std.specs.Prelude.{◌≡◌, ◌^◌, ◌<◌, ◌≤◌, ◌++◌, length, [], IfSome, IfOk, IfErr};
 ghost use Rattle.std.specs.List.{flat_map, enumerate_from};
 ghost use Rattle.outside.specs.Sent.{Sends};
 ghost use Rattle.reg_file.specs.Reads.{OnlyReads};
 ghost use Rattle.sketch_lower.specs.Operations.{start_of};
-ghost use Rattle.readout.specs.PlacedTasks.{CanRead, IsFit, task_in, place_in, block_of, register_at, row_contents, rows_contents, rows_of_side};
+ghost use Rattle.readout.specs.PlacedTasks.{CanRead, IsFit, IsShaped, task_in, place_in, part_in, parts_in, block_of, register_at, row_contents, rows_contents};
 ghost use Rattle.readout.specs.Lines.{cell_line, row_lines, head_line};
-ghost use Rattle.readout.specs.Answers.{lines_of_rows};
-ghost use Rattle.readout.specs.Outcomes.{Gathers, IsStopOf};
+ghost use Rattle.readout.specs.Answers.{answer_by, lines_of_cells};
+ghost use Rattle.readout.specs.Outcomes.{Gathers, IsStopOf, Replies};
 
+use crate::judging::judge;
 use crate::lines::{put_cell, put_head};
 use crate::pieces::{Piece, end_block, make_room};
-use crate::places::{cell_count, first_place, part_of, row_count};
-use crate::refusals::Stop;
+use crate::places::{cell_count, first_place, part_of};
+use crate::refusals::{Refusal, Stop, outcome_of_sent};
+use crate::requests::Ask;
 use crate::views::{Side, TaskView};
 use fm_io::Sink;
 use reg_file::RegFile;
+use sketch_defs::Name;
 use sketch_lower::start_value;
 
 /// The partitions of a task, which started at `start`.
@@ -118,7 +121,7 @@ fn begin_cells<V: TaskView>(view: &V, source: Source) -> Piece
         &mut piece,
         source.side,
         task.name(),
-        row_count(task),
+        task.rows(),
         size,
         source.start,
     );
@@ -135,7 +138,7 @@ fn start_of<V: TaskView>(view: &V, at: usize) -> u32
 
 /// Sends the cells of a task, row by row.
 #[tactic(auto, using(crate::proofs::PlacedTaskLemmas::rows_placed))]
-pub(crate) fn send_cells<V: TaskView, R: RegFile, S: Sink>(
+fn send_cells<V: TaskView, R: RegFile, S: Sink>(
     view: &V,
     regs: &mut R,
     at: usize,
@@ -146,17 +149,39 @@ pub(crate) fn send_cells<V: TaskView, R: RegFile, S: Sink>(
     ensures reads { OnlyReads R.RegFile regs.old regs.new }
     ensures later { S.faults sink.old ≤ S.faults sink.new }
     ensures cause { IfErr result (IsStopOf R.RegFile S.Sink regs.old regs.new sink.old sink.new) }
-    ensures sent { let placed = task_in (V.seen view.now) at in IfSome (R.contents regs.new) (λ told. Sends (S.sent sink.old)
-        (lines_of_rows side placed.task (rows_of_side told side placed)) result (S.sent sink.new)) }
+    ensures sent { IfSome (R.contents regs.new) (λ told. IfOk (lines_of_cells side (part_in told (task_in (V.seen view.now) at)))
+        (λ lines. Sends (S.sent sink.old) lines result (S.sent sink.new))) }
 {
     let source = Source {
         task: at,
         side,
         start: start_of(view, at),
     };
-    let rows = row_count(view.task(at));
+    let rows = view.task(at).rows();
     let mut piece = begin_cells(view, source);
     gather_rows(view, regs, source, rows, sink, &mut piece)?;
     end_block(sink, &mut piece)?;
     Ok(())
+}
+
+/// Tells the cells of the live task of the name, or why there are none.
+pub(crate) fn tell_cells<V: TaskView, R: RegFile, S: Sink>(
+    view: &V,
+    regs: &mut R,
+    name: &Name,
+    side: Side,
+    sink: &mut S,
+) -> Result<Result<(), Refusal>, Stop>
+    requires fit { IsFit (V.seen view.now) }
+    requires shaped { IsShaped (V.seen view.now).geometry (R.dims regs.old) }
+    ensures replies { Replies (λ told. answer_by name.now (lines_of_cells side) (parts_in told (V.seen view.now)))
+        (R.contents regs.new) (S.sent sink.old) result (S.sent sink.new) }
+    ensures cause { IfErr result (IsStopOf R.RegFile S.Sink regs.old regs.new sink.old sink.new) }
+    ensures later { S.faults sink.old ≤ S.faults sink.new }
+    ensures reads { OnlyReads R.RegFile regs.old regs.new }
+{
+    match judge(view, name, &Ask::Cells(side)) {
+        Ok(at) => outcome_of_sent(send_cells(view, regs, at, side, sink)),
+        Err(refusal) => Ok(Err(refusal)),
+    }
 }

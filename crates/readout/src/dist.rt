@@ -1,5 +1,5 @@
 //! The sizes that the cells of a task tell.
-ghost use Rattle.std.specs.Prelude.{◌≡◌, ◌+◌, ◌∷◌, ◌^◌, ◌<◌, ◌≤◌, length, drop, slice_index, vec_capacity, IfSome, IfErr, OnOk};
+ghost use Rattle.std.specs.Prelude.{◌≡◌, ◌+◌, ◌∷◌, ◌^◌, ◌<◌, ◌≤◌, length, drop, slice_index, vec_capacity, IfSome, IfOk, IfErr, OnOk};
 ghost use Rattle.std.specs.List.{flat_map};
 ghost use Rattle.std.specs.List.Sorted.{IsSorted};
 ghost use Rattle.std.specs.Ordering.{nat_cmp};
@@ -7,16 +7,18 @@ ghost use Rattle.outside.specs.Faults.{HasCause};
 ghost use Rattle.outside.specs.Sent.{Sends};
 ghost use Rattle.reg_file.specs.Reads.{OnlyReads};
 ghost use Rattle.sketch_defs.specs.Answers.{Size, sizes_of};
-ghost use Rattle.sketch_defs.specs.Cells.{row_of};
 ghost use Rattle.readout.specs.declared.views.Side.TheVariants.{Live};
-ghost use Rattle.readout.specs.PlacedTasks.{CanRead, task_in, place_in, live_bits, row_contents, rows_contents};
+ghost use Rattle.readout.specs.PlacedTasks.{CanRead, IsFit, IsShaped, task_in, task_named, place_in, part_in, parts_in, live_bits, row_contents};
 ghost use Rattle.readout.specs.Lines.{size_line, dist_lines};
-ghost use Rattle.readout.specs.Outcomes.{Gathers, IsStopOf};
+ghost use Rattle.readout.specs.Answers.{answer_by, lines_of_dist};
+ghost use Rattle.readout.specs.Outcomes.{Gathers, IsStopOf, Replies};
 
+use crate::judging::judge;
 use crate::lines::{put_dist, put_size};
 use crate::pieces::{Piece, end_block, make_room};
 use crate::places::{cell_count, first_place};
-use crate::refusals::Stop;
+use crate::refusals::{Refusal, Stop, outcome_of_sent};
+use crate::requests::Ask;
 use crate::views::{Side, TaskView};
 use fm_io::{Failed, Sink};
 use reg_file::{DeviceFault, RegFile};
@@ -107,7 +109,7 @@ fn sort_cells(cells: &mut Vec<u32>)
 }
 
 /// Sends the sizes of a task, whose cells are read once.
-pub(crate) fn send_dist<V: TaskView, R: RegFile, S: Sink>(
+fn send_dist<V: TaskView, R: RegFile, S: Sink>(
     view: &V,
     regs: &mut R,
     at: usize,
@@ -120,12 +122,36 @@ pub(crate) fn send_dist<V: TaskView, R: RegFile, S: Sink>(
     ensures later { S.faults sink.old ≤ S.faults sink.new }
     ensures cause { IfErr result (IsStopOf R.RegFile S.Sink regs.old regs.new sink.old sink.new) }
     ensures capacity { vec_capacity cells.old ≤ vec_capacity cells.new }
-    ensures sent { let placed = task_in (V.seen view.now) at in IfSome (R.contents regs.new) (λ told. Sends (S.sent sink.old)
-        (dist_lines placed.task.name (sizes_of (row_of (rows_contents told Live placed) 0))) result (S.sent sink.new)) }
+    ensures sent { IfSome (R.contents regs.new) (λ told. IfOk (lines_of_dist (part_in told (task_in (V.seen view.now) at)))
+        (λ lines. Sends (S.sent sink.old) lines result (S.sent sink.new))) }
 {
     let size = cell_count(first_place(view, at).region);
     read_row(view, regs, at, size, cells)?;
     sort_cells(cells);
     send_sizes(view.task(at).name(), cells.as_slice(), sink)?;
     Ok(())
+}
+
+/// Tells the sizes of the live task of the name, or why there are none.
+pub(crate) fn tell_dist<V: TaskView, R: RegFile, S: Sink>(
+    view: &V,
+    regs: &mut R,
+    name: &Name,
+    cells: &mut Vec<u32>,
+    sink: &mut S,
+) -> Result<Result<(), Refusal>, Stop>
+    requires fit { IsFit (V.seen view.now) }
+    requires shaped { IsShaped (V.seen view.now).geometry (R.dims regs.old) }
+    requires room { IfSome (task_named name.now (V.seen view.now)) (λ placed. 2 ^ live_bits placed ≤ vec_capacity cells.old) }
+    ensures replies { Replies (λ told. answer_by name.now lines_of_dist (parts_in told (V.seen view.now)))
+        (R.contents regs.new) (S.sent sink.old) result (S.sent sink.new) }
+    ensures cause { IfErr result (IsStopOf R.RegFile S.Sink regs.old regs.new sink.old sink.new) }
+    ensures later { S.faults sink.old ≤ S.faults sink.new }
+    ensures reads { OnlyReads R.RegFile regs.old regs.new }
+    ensures capacity { vec_capacity cells.old ≤ vec_capacity cells.new }
+{
+    match judge(view, name, &Ask::Dist) {
+        Ok(at) => outcome_of_sent(send_dist(view, regs, at, cells, sink)),
+        Err(refusal) => Ok(Err(refusal)),
+    }
 }

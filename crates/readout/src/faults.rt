@@ -21,47 +21,17 @@ pub enum ReadFault {
     Write,
 }
 
-impl From<Refusal> for ReadFault {
-    ghost use Rattle.std.specs.Prelude.{◌≡◌, Ok, Err};
-    ghost use Rattle.readout.specs.Outcomes.{outcome_of};
-
-    ghost from_gives = { λ refusal fault. outcome_of (Err fault) ≡ Ok (Err refusal) };
-
-    fn from(refusal: Refusal) -> ReadFault {
-        match refusal {
-            Refusal::Unknown => ReadFault::Unknown,
-            Refusal::NoFrozen => ReadFault::NoFrozen,
-            Refusal::NoAnswer => ReadFault::NoAnswer,
-            Refusal::BadKey => ReadFault::BadKey,
-        }
-    }
-}
-
-impl From<Stop> for ReadFault {
-    ghost use Rattle.std.specs.Prelude.{◌≡◌, Ok, Err};
-    ghost use Rattle.readout.specs.Outcomes.{outcome_of};
-
-    ghost from_gives = { λ stop fault. outcome_of (Err fault) ≡ Err stop };
-
-    fn from(stop: Stop) -> ReadFault {
-        match stop {
-            Stop::Device => ReadFault::Device,
-            Stop::Write => ReadFault::Write,
-        }
-    }
-}
-
-/// The refusals apart from what stops.
-pub(crate) fn split(told: Result<(), ReadFault>) -> Result<Result<(), Refusal>, Stop>
-    ensures { result ≡ outcome_of told }
+/// The fault that tells the outcome of a read-out.
+pub(crate) fn fault_of(outcome: Result<Result<(), Refusal>, Stop>) -> Result<(), ReadFault>
+    ensures { outcome_of result ≡ outcome }
 {
-    match told {
-        Ok(()) => Ok(Ok(())),
-        Err(ReadFault::Unknown) => Ok(Err(Refusal::Unknown)),
-        Err(ReadFault::NoFrozen) => Ok(Err(Refusal::NoFrozen)),
-        Err(ReadFault::NoAnswer) => Ok(Err(Refusal::NoAnswer)),
-        Err(ReadFault::BadKey) => Ok(Err(Refusal::BadKey)),
-        Err(ReadFault::Device) => Err(Stop::Device),
-        Err(ReadFault::Write) => Err(Stop::Write),
+    match outcome {
+        Ok(Ok(())) => Ok(()),
+        Ok(Err(Refusal::Unknown)) => Err(ReadFault::Unknown),
+        Ok(Err(Refusal::NoFrozen)) => Err(ReadFault::NoFrozen),
+        Ok(Err(Refusal::NoAnswer)) => Err(ReadFault::NoAnswer),
+        Ok(Err(Refusal::BadKey)) => Err(ReadFault::BadKey),
+        Err(Stop::Device) => Err(ReadFault::Device),
+        Err(Stop::Write) => Err(ReadFault::Write),
     }
 }

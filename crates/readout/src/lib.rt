@@ -22,6 +22,6 @@ mod views;
 pub use faults::ReadFault;
 pub use readout::Readout;
 pub use refusals::{Refusal, Stop, refused_line};
-pub use requests::{Ask, Request};
+pub use requests::Ask;
 pub use std::alloc::AllocError as OutOfMemory;
 pub use views::{Placed, Side, TaskView};

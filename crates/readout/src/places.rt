@@ -4,7 +4,6 @@ ghost use Rattle.readout.specs.PlacedTasks.{task_in, place_in, block_of, IsFit};
 
 use crate::views::{Placed, Side, TaskView};
 use addr_translate::Region;
-use sketch_defs::Task;
 
 /// Where the first row of a task stands.
 #[tactic(auto, using(crate::proofs::PlacedTaskLemmas::rows_placed))]
@@ -14,19 +13,9 @@ pub(crate) fn first_place<V: TaskView>(view: &V, at: usize) -> Placed
     ensures value { result ≡ place_in (V.seen view.now) at 0 }
     ensures exists { 0 < length (task_in (V.seen view.now) at).places }
 {
-    let rows = row_count(view.task(at));
+    let rows = view.task(at).rows();
     prove!(0 < rows);
     view.placed(at, 0)
-}
-
-/// How many rows the task has.
-#[tactic(auto, using(crate::proofs::PlacedTaskLemmas::some_rows, crate::proofs::PlacedTaskLemmas::few_rows))]
-pub(crate) fn row_count(task: &Task) -> u32
-    ensures value { result ≡ task.now.rows }
-    ensures some { 1 ≤ result }
-    ensures few { result ≤ 4 }
-{
-    task.rows()
 }
 
 /// The partition of the side.

@@ -1,29 +1,30 @@
 //! What a task answers for a key value.
-ghost use Rattle.std.specs.Prelude.{◌≡◌, ◌≢◌, ◌<◌, ◌≤◌, length, slice_index, Ok, true, IfSome, IfErr, IfOk};
+ghost use Rattle.std.specs.Prelude.{◌≡◌, ◌<◌, ◌≤◌, length, slice_index, true, IfSome, IfErr, IfOk};
 ghost use Rattle.std.specs.Str.{bytes_eq};
 ghost use Rattle.outside.specs.Faults.{HasCause};
 ghost use Rattle.outside.specs.Sent.{Sends};
 ghost use Rattle.addr_translate.specs.Blocks.{index_of};
 ghost use Rattle.hash_units.specs.Toeplitz.{row_hash_of};
 ghost use Rattle.reg_file.specs.Reads.{OnlyReads};
-ghost use Rattle.sketch_defs.specs.declared.kinds.Kind.TheVariants.{Mrac, Hll};
 ghost use Rattle.sketch_defs.specs.Answers.{cells_found};
 ghost use Rattle.readout.specs.declared.views.Side.TheVariants.{Live};
-ghost use Rattle.readout.specs.PlacedTasks.{CanRead, task_in, place_in, live_bits, row_contents, rows_contents, part_in};
-ghost use Rattle.readout.specs.Answers.{line_of_query};
-ghost use Rattle.readout.specs.Outcomes.{IsStopOf};
+ghost use Rattle.readout.specs.PlacedTasks.{CanRead, task_in, place_in, live_bits, row_contents, rows_contents, part_in, parts_in, IsFit, IsShaped};
+ghost use Rattle.readout.specs.Answers.{answer_by, answers_keys, line_of_query};
+ghost use Rattle.readout.specs.Outcomes.{IsStopOf, Replies};
 
+use crate::judging::judge;
 use crate::lines::put_query;
 use crate::pieces::{Piece, send_piece};
-use crate::places::{bits_of, row_count};
-use crate::refusals::Stop;
+use crate::places::bits_of;
+use crate::refusals::{Refusal, Stop, outcome_of_sent};
+use crate::requests::Ask;
 use crate::views::{Side, TaskView};
 use addr_translate::index;
 use arrayvec::ArrayVec;
 use fm_io::Sink;
 use hash_units::{HashKey, hash, row_hash};
 use reg_file::{DeviceFault, RegFile};
-use sketch_defs::answer;
+use sketch_defs::{Name, answer};
 use task_filters::Filter;
 
 /// The most rows of a task.
@@ -78,30 +79,52 @@ fn found_cells<V: TaskView, R: RegFile>(
 
 /// Sends what the task answers for the key value.
 #[tactic(auto, using(crate::proofs::PlacedTaskLemmas::rows_placed))]
-pub(crate) fn send_query<V: TaskView, R: RegFile, S: Sink>(
+fn send_query<V: TaskView, R: RegFile, S: Sink>(
     view: &V,
     regs: &mut R,
     hash_key: &HashKey,
-    number: usize,
-    at: &Filter,
+    at: usize,
+    filter: &Filter,
     sink: &mut S,
 ) -> Result<(), Stop>
-    requires readable { CanRead (V.seen view.now) (R.dims regs.old) number Live }
-    requires no_counters { (task_in (V.seen view.now) number).task.kind ≢ Mrac }
-    requires no_ranks { (task_in (V.seen view.now) number).task.kind ≢ Hll }
-    requires keyed { bytes_eq at.now.mask (task_in (V.seen view.now) number).task.key ≡ true }
+    requires readable { CanRead (V.seen view.now) (R.dims regs.old) at Live }
+    requires answers { answers_keys (task_in (V.seen view.now) at).task.kind ≡ true }
+    requires keyed { bytes_eq filter.now.mask (task_in (V.seen view.now) at).task.key ≡ true }
     ensures reads { OnlyReads R.RegFile regs.old regs.new }
     ensures later { S.faults sink.old ≤ S.faults sink.new }
     ensures cause { IfErr result (IsStopOf R.RegFile S.Sink regs.old regs.new sink.old sink.new) }
-    ensures sent { IfSome (R.contents regs.new) (λ told. IfOk (line_of_query hash_key.now at.now (part_in told (task_in (V.seen view.now) number)))
+    ensures sent { IfSome (R.contents regs.new) (λ told. IfOk (line_of_query hash_key.now filter.now (part_in told (task_in (V.seen view.now) at)))
         (λ line. Sends (S.sent sink.old) line result (S.sent sink.new))) }
 {
-    let task = view.task(number);
-    let h = hash(hash_key, at.value(), task.key());
-    let found = found_cells(view, regs, number, row_count(task), h)?;
+    let task = view.task(at);
+    let h = hash(hash_key, filter.value(), task.key());
+    let found = found_cells(view, regs, at, task.rows(), h)?;
     let reply = answer(task.kind(), found.as_slice(), h);
     let mut piece = Piece::new();
     put_query(&mut piece, task.name(), reply);
     send_piece(sink, &piece)?;
     Ok(())
+}
+
+/// Tells what the live task of the name answers for the key value, or why it does not.
+pub(crate) fn tell_query<V: TaskView, R: RegFile, S: Sink>(
+    view: &V,
+    regs: &mut R,
+    hash_key: &HashKey,
+    name: &Name,
+    filter: &Filter,
+    sink: &mut S,
+) -> Result<Result<(), Refusal>, Stop>
+    requires fit { IsFit (V.seen view.now) }
+    requires shaped { IsShaped (V.seen view.now).geometry (R.dims regs.old) }
+    ensures replies { Replies (λ told. answer_by name.now (line_of_query hash_key.now filter.now) (parts_in told (V.seen view.now)))
+        (R.contents regs.new) (S.sent sink.old) result (S.sent sink.new) }
+    ensures cause { IfErr result (IsStopOf R.RegFile S.Sink regs.old regs.new sink.old sink.new) }
+    ensures later { S.faults sink.old ≤ S.faults sink.new }
+    ensures reads { OnlyReads R.RegFile regs.old regs.new }
+{
+    match judge(view, name, &Ask::Query(*filter)) {
+        Ok(at) => outcome_of_sent(send_query(view, regs, hash_key, at, filter, sink)),
+        Err(refusal) => Ok(Err(refusal)),
+    }
 }

@@ -6,18 +6,17 @@ ghost use Rattle.reg_file.specs.Registers.{Contents};
 ghost use Rattle.reg_file.specs.Reads.{OnlyReads};
 ghost use Rattle.readout.specs.PlacedTasks.{PlacedTask, task_named, live_bits, parts_in, IsFit, IsShaped, AreWithin};
 ghost use Rattle.readout.specs.Lines.{show_lines, stat_lines};
-ghost use Rattle.readout.specs.Answers.{answer_by, answer_to, lines_of_cells, line_of_query, lines_of_dist, line_of_card};
+ghost use Rattle.readout.specs.Answers.{answer_by, task_answer, lines_of_cells, line_of_query, lines_of_dist, line_of_card};
 ghost use Rattle.readout.specs.Outcomes.{Replies, IsStopOf, outcome_of};
 
 use crate::OutOfMemory;
-use crate::card::send_card;
-use crate::cells::send_cells;
-use crate::dist::send_dist;
-use crate::faults::{ReadFault, split};
-use crate::judging::{judge_card, judge_cells, judge_dist, judge_query};
-use crate::query::send_query;
+use crate::card::tell_card;
+use crate::cells::tell_cells;
+use crate::dist::tell_dist;
+use crate::faults::{ReadFault, fault_of};
+use crate::query::tell_query;
 use crate::refusals::{Refusal, Stop};
-use crate::requests::{Ask, Request};
+use crate::requests::Ask;
 use crate::show::send_show;
 use crate::stat::send_stat;
 use crate::views::{Side, TaskView};
@@ -76,9 +75,7 @@ impl Readout {
         ensures later { S.faults sink.old ≤ S.faults sink.new }
         ensures reads { OnlyReads R.RegFile regs.old regs.new }
     {
-        let at = judge_cells(view, name, side)?;
-        send_cells(view, regs, at, side, sink)?;
-        Ok(())
+        fault_of(tell_cells(view, regs, name, side, sink))
     }
 
     /// Tells what a task answers for a key value, which has the fields of the task's key. One cell
@@ -100,9 +97,7 @@ impl Readout {
         ensures later { S.faults sink.old ≤ S.faults sink.new }
         ensures reads { OnlyReads R.RegFile regs.old regs.new }
     {
-        let number = judge_query(view, name, at)?;
-        send_query(view, regs, hash_key, number, at, sink)?;
-        Ok(())
+        fault_of(tell_query(view, regs, hash_key, name, at, sink))
     }
 
     /// Tells the estimate of a task that counts distinct keys, with what it rests on.
@@ -121,9 +116,7 @@ impl Readout {
         ensures later { S.faults sink.old ≤ S.faults sink.new }
         ensures reads { OnlyReads R.RegFile regs.old regs.new }
     {
-        let at = judge_card(view, name)?;
-        send_card(view, regs, at, sink)?;
-        Ok(())
+        fault_of(tell_card(view, regs, name, sink))
     }
 
     /// Tells each value among the cells of a task of one row, with the number of cells that hold
@@ -145,9 +138,7 @@ impl Readout {
         ensures reads { OnlyReads R.RegFile regs.old regs.new }
         ensures room { self.new ≡ self.old }
     {
-        let at = judge_dist(view, name)?;
-        send_dist(view, regs, at, &mut self.cells, sink)?;
-        Ok(())
+        fault_of(tell_dist(view, regs, name, &mut self.cells, sink))
     }
 
     /// Tells each task in order of its addition, with its present size, and where its rows stand.
@@ -170,56 +161,32 @@ impl Readout {
         send_stat(view, sink).map_err(|_| ReadFault::Write)
     }
 
-    /// Carries out a read-out by the call for it.
-    fn carry_out<V: TaskView, R: RegFile, S: Sink>(
-        &mut self,
-        view: &V,
-        regs: &mut R,
-        hash_key: &HashKey,
-        request: &Request,
-        sink: &mut S,
-    ) -> Result<(), ReadFault>
-        requires fit { IsFit (V.seen view.now) }
-        requires shaped { IsShaped (V.seen view.now).geometry (R.dims regs.old) }
-        requires room { AreWithin self.old (V.seen view.now) }
-        ensures replies { Replies (λ told. answer_to hash_key.now request.now (V.seen view.now) (parts_in told (V.seen view.now)))
-            (R.contents regs.new) (S.sent sink.old) (outcome_of result) (S.sent sink.new) }
-        ensures cause { IfErr (outcome_of result) (IsStopOf R.RegFile S.Sink regs.old regs.new sink.old sink.new) }
-        ensures later { S.faults sink.old ≤ S.faults sink.new }
-        ensures reads { OnlyReads R.RegFile regs.old regs.new }
-        ensures room { self.new ≡ self.old }
-    {
-        match request {
-            Request::Task { name, ask } => match ask {
-                Ask::Cells(side) => self.cells(view, regs, name, *side, sink),
-                Ask::Query(at) => self.query(view, regs, hash_key, name, at, sink),
-                Ask::Dist => self.dist(view, regs, name, sink),
-                Ask::Card => self.card(view, regs, name, sink),
-            },
-            Request::Show => self.show(view, sink),
-            Request::Stat => self.stat(view, sink),
-        }
-    }
-
-    /// Carries out a read-out: its lines are sent, or it is refused, or a fault stopped it.
+    /// Tells what the live task of the name is asked for: the lines are sent, or it is refused, or a
+    /// fault stopped it.
     pub fn read_out<V: TaskView, R: RegFile, S: Sink>(
         &mut self,
         view: &V,
         regs: &mut R,
         hash_key: &HashKey,
-        request: &Request,
+        name: &Name,
+        ask: &Ask,
         sink: &mut S,
     ) -> Result<Result<(), Refusal>, Stop>
         requires fit { IsFit (V.seen view.now) }
         requires shaped { IsShaped (V.seen view.now).geometry (R.dims regs.old) }
         requires room { AreWithin self.old (V.seen view.now) }
-        ensures replies { Replies (λ told. answer_to hash_key.now request.now (V.seen view.now) (parts_in told (V.seen view.now)))
+        ensures replies { Replies (λ told. answer_by name.now (task_answer hash_key.now ask.now) (parts_in told (V.seen view.now)))
             (R.contents regs.new) (S.sent sink.old) result (S.sent sink.new) }
         ensures cause { IfErr result (IsStopOf R.RegFile S.Sink regs.old regs.new sink.old sink.new) }
         ensures later { S.faults sink.old ≤ S.faults sink.new }
         ensures reads { OnlyReads R.RegFile regs.old regs.new }
         ensures room { self.new ≡ self.old }
     {
-        split(self.carry_out(view, regs, hash_key, request, sink))
+        match ask {
+            Ask::Cells(side) => tell_cells(view, regs, name, *side, sink),
+            Ask::Query(at) => tell_query(view, regs, hash_key, name, at, sink),
+            Ask::Dist => tell_dist(view, regs, name, &mut self.cells, sink),
+            Ask::Card => tell_card(view, regs, name, sink),
+        }
     }
 }

@@ -2,6 +2,7 @@
 ghost use Rattle.std.specs.Prelude.{◌≡◌, ◌≤◌, length};
 ghost use Rattle.readout.specs.Answers.{reason_word, ask_word, refused_line};
 ghost use Rattle.readout.specs.Lines.{side_word};
+ghost use Rattle.readout.specs.Outcomes.{outcome_of_sent};
 
 use crate::requests::Ask;
 use crate::views::Side;
@@ -51,6 +52,16 @@ impl From<Failed> for Stop {
 
     fn from(_fault: Failed) -> Stop {
         Stop::Write
+    }
+}
+
+/// The outcome of a read-out that is not refused.
+pub(crate) fn outcome_of_sent(sent: Result<(), Stop>) -> Result<Result<(), Refusal>, Stop>
+    ensures { result ≡ outcome_of_sent sent }
+{
+    match sent {
+        Ok(()) => Ok(Ok(())),
+        Err(stop) => Err(stop),
     }
 }
 

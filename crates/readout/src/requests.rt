@@ -1,4 +1,4 @@
-//! What read-outs are asked for.
+//! What a task is asked for.
 
 use crate::views::Side;
 use sketch_defs::Name;
@@ -15,12 +15,4 @@ pub enum Ask {
     Dist,
     /// Its estimate of the number of distinct keys.
     Card,
-}
-
-/// A read-out of one task, of all tasks, or of what is in use.
-#[derive(Clone, Copy, Debug, PartialEq, Eq)]
-pub enum Request {
-    Task { name: Name, ask: Ask },
-    Show,
-    Stat,
 }

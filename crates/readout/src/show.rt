@@ -11,7 +11,6 @@ ghost use Rattle.readout.specs.Outcomes.{Gathers};
 
 use crate::lines::{put_number, put_place};
 use crate::pieces::{Piece, end_block, make_room};
-use crate::places::row_count;
 use crate::views::TaskView;
 use addr_translate::Shape;
 use fm_io::{Failed, Sink};
@@ -44,8 +43,8 @@ fn gather_places<V: TaskView, S: Sink>(
         (flat_map (λ row. place_line (V.seen view.now).geometry row.0 row.1) (enumerate_from 0 (task_in (V.seen view.now) at).places))
         result piece.new.bytes (S.sent sink.new) }
 {
-    let rows = row_count(view.task(at));
-    'rows: for row in 0..rows {
+    let count = view.task(at).rows();
+    'rows: for row in 0..count {
         make_room(sink, piece)?;
         put_place(piece, shape, row, &view.placed(at, row));
     }

@@ -4,7 +4,8 @@ use Rattle.readout.specs.PlacedTasks.{place_in, register_at}
 use Rattle.readout.specs.Lines.{cell_line}
 use Rattle.readout.specs.Outcomes.{Gathers}
 use Rattle.readout.proofs.PieceLemmas.{front_of_more, gathers_at_err}
-use Rattle.readout.proofs.CellLemmas.{told_all, cell_unsent, cell_as_started}
+use Rattle.readout.proofs.ToldLemmas.{told_all}
+use Rattle.readout.proofs.CellLemmas.{cell_unsent, cell_as_started}
 use Rattle.readout.proofs.cells.gather_cell.Goals as goal
 
 pub returns-in_err-value-clause-sent : goal.returns-in_err-value-clause-sent

@@ -26,7 +26,7 @@ returns-in_err-gather_cell-clause-sent g c =
     let inside : c.cells.index < 2 ^ (block_of c.args.source.side place).bits = search rules in
     row_cut (r.contents c.cells.regs) (r.contents c.gather_cell.new.regs) (s.sent c.args.sink.now) (s.sent c.cells.sink) (s.sent c.gather_cell.new.sink)
     c.args.piece.now.bytes c.cells.piece.bytes c.gather_cell.new.piece.bytes c.args.source.start c.args.row c.cells.index c.args.source.side place
-    _ _ c.from_residual.result c.from_residual.ensures.0 inside
+    c.from_residual.result c.from_residual.ensures.0 inside
     c.gather_cell.ensures.reads.contents c.cells.invariant.so_far c.in_err-gather_cell.ensures.sent
 
 pub returns-in_err-gather_cell-clause-reads : goal.returns-in_err-gather_cell-clause-reads

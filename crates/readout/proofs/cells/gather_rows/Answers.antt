@@ -26,7 +26,7 @@ returns-in_err-gather_row-clause-sent g c =
     let inside : c.rows.row < length placed.places = omega arith in
     rows_cut (r.contents c.rows.regs) (r.contents c.gather_row.new.regs) (s.sent c.args.sink.now) (s.sent c.rows.sink) (s.sent c.gather_row.new.sink)
     c.args.piece.now.bytes c.rows.piece.bytes c.gather_row.new.piece.bytes c.args.source.start c.args.source.side placed c.rows.row
-    _ _ c.from_residual.result c.from_residual.ensures.0 inside
+    c.from_residual.result c.from_residual.ensures.0 inside
     c.gather_row.ensures.reads.contents c.rows.invariant.so_far c.in_err-gather_row.ensures.sent
 
 pub returns-in_err-gather_row-clause-reads : goal.returns-in_err-gather_row-clause-reads

@@ -15,8 +15,8 @@ returns-clause-sent g c =
     let head : c.begin_cells-piece.result.bytes ≡ head_of_cells c.args.side placed =
     c.begin_cells-piece.ensures
     ∙ ap (head_line c.args.side placed.task.name (length placed.places) (2 ^ (block_of c.args.side (place_in (v.seen c.args.view.now) c.args.at 0)).bits)) c.start_of.ensures in
-    cells_sent (r.contents c.gather_rows.new.regs) (s.sent c.args.sink.now) (s.sent c.gather_rows.new.sink) (s.sent c.end_block.new.sink) c.args.side placed
-    c.begin_cells-piece.result.bytes c.gather_rows.new.piece.bytes (Unit {0}) Stop (Ok c.in_ok-end_block.field-0) head
+    cells_sent {E = Stop} (r.contents c.gather_rows.new.regs) (s.sent c.args.sink.now) (s.sent c.gather_rows.new.sink) (s.sent c.end_block.new.sink) c.args.side placed
+    c.begin_cells-piece.result.bytes c.gather_rows.new.piece.bytes (Ok c.in_ok-end_block.field-0) head
     (subst (λ start. IfSome (r.contents c.gather_rows.new.regs) (λ told. CameSoFar (s.sent c.args.sink.now)
     (c.begin_cells-piece.result.bytes ++ flat_map (row_of_lines start) (rows_at c.args.side placed told)) c.gather_rows.new.piece.bytes (s.sent c.gather_rows.new.sink)))
     c.start_of.ensures c.in_ok-gather_rows.ensures.sent)
@@ -30,7 +30,7 @@ returns-in_err-gather_rows-clause-sent g c =
     c.begin_cells-piece.ensures
     ∙ ap (head_line c.args.side placed.task.name (length placed.places) (2 ^ (block_of c.args.side (place_in (v.seen c.args.view.now) c.args.at 0)).bits)) c.start_of.ensures in
     cells_cut (r.contents c.gather_rows.new.regs) (s.sent c.args.sink.now) (s.sent c.gather_rows.new.sink) c.args.side placed c.begin_cells-piece.result.bytes
-    _ _ c.from_residual.result head c.from_residual.ensures.0
+    c.from_residual.result head c.from_residual.ensures.0
     (subst (λ start. IfSome (r.contents c.gather_rows.new.regs) (λ told. CameInFront (s.sent c.args.sink.now)
     (c.begin_cells-piece.result.bytes ++ flat_map (row_of_lines start) (rows_at c.args.side placed told)) (s.sent c.gather_rows.new.sink)))
     c.start_of.ensures c.in_err-gather_rows.ensures.sent)
@@ -44,7 +44,7 @@ returns-in_err-end_block-clause-sent g c =
     c.begin_cells-piece.ensures
     ∙ ap (head_line c.args.side placed.task.name (length placed.places) (2 ^ (block_of c.args.side (place_in (v.seen c.args.view.now) c.args.at 0)).bits)) c.start_of.ensures in
     cells_sent (r.contents c.gather_rows.new.regs) (s.sent c.args.sink.now) (s.sent c.gather_rows.new.sink) (s.sent c.end_block.new.sink) c.args.side placed
-    c.begin_cells-piece.result.bytes c.gather_rows.new.piece.bytes _ _ failed.result head
+    c.begin_cells-piece.result.bytes c.gather_rows.new.piece.bytes failed.result head
     (subst (λ start. IfSome (r.contents c.gather_rows.new.regs) (λ told. CameSoFar (s.sent c.args.sink.now)
     (c.begin_cells-piece.result.bytes ++ flat_map (row_of_lines start) (rows_at c.args.side placed told)) c.gather_rows.new.piece.bytes (s.sent c.gather_rows.new.sink)))
     c.start_of.ensures c.in_ok-gather_rows.ensures.sent)

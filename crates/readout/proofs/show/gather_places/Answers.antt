@@ -22,7 +22,7 @@ rows-preserved g c =
     let view = v.seen c.args.view.now in
     let placed = task_in view c.args.at in
     let count = rows_placed view c.args.at c.requires.fit c.requires.task in
-    let rows : c.row_count-rows.result ≡ length placed.places = cc (c.row_count-rows.ensures.value, c.task.ensures, count) in
+    let rows : c.rows-count.result ≡ length placed.places = cc (c.rows-count.ensures.value, c.task.ensures, count) in
     let below : c.rows.row < length placed.places = omega (arith, rows, c.rows-test.true) in
     let put : c.put_place.new.piece.bytes ≡ c.make_room.new.piece.bytes ++ place_line view.geometry c.rows.row (place_in view c.args.at c.rows.row) =
     c.put_place.ensures
@@ -46,7 +46,7 @@ returns-in_err-make_room-clause-sent g c =
     let view = v.seen c.args.view.now in
     let placed = task_in view c.args.at in
     let count = rows_placed view c.args.at c.requires.fit c.requires.task in
-    let rows : c.row_count-rows.result ≡ length placed.places = cc (c.row_count-rows.ensures.value, c.task.ensures, count) in
+    let rows : c.rows-count.result ≡ length placed.places = cc (c.rows-count.ensures.value, c.task.ensures, count) in
     let below : c.rows.row < length placed.places = omega (arith, rows, c.rows-test.true) in
     flat_unput c.from_residual.result (s.sent c.args.sink.now) (s.sent c.rows.sink) (s.sent c.make_room.new.sink) c.args.piece.now.bytes (line_at view.geometry) (places_of placed)
     c.rows.row (0, no_place) c.rows.piece.bytes c.make_room.new.piece.bytes (omega (arith, below, place_count placed)) c.from_residual.ensures.0
@@ -58,7 +58,7 @@ returns-clause-sent g c =
     let view = v.seen c.args.view.now in
     let placed = task_in view c.args.at in
     let count = rows_placed view c.args.at c.requires.fit c.requires.task in
-    let rows : c.row_count-rows.result ≡ length placed.places = cc (c.row_count-rows.ensures.value, c.task.ensures, count) in
+    let rows : c.rows-count.result ≡ length placed.places = cc (c.rows-count.ensures.value, c.task.ensures, count) in
     let all : length (places_of placed) ≤ c.rows.row = omega (arith, rows, c.rows-test.false, place_count placed) in
     flat_done (s.sent c.args.sink.now) (s.sent c.rows.sink) c.args.piece.now.bytes (line_at view.geometry) (places_of placed) c.rows.row c.rows.piece.bytes all
     c.rows.invariant.so_far
@@ -69,6 +69,6 @@ put_place-requires-clause-array g c =
     let view = v.seen c.args.view.now in
     let placed = task_in view c.args.at in
     let count = rows_placed view c.args.at c.requires.fit c.requires.task in
-    let rows : c.row_count-rows.result ≡ length placed.places = cc (c.row_count-rows.ensures.value, c.task.ensures, count) in
+    let rows : c.rows-count.result ≡ length placed.places = cc (c.rows-count.ensures.value, c.task.ensures, count) in
     let below : c.rows.row < length placed.places = omega (arith, rows, c.rows-test.true) in
     rw (c.requires.shape, c.placed.ensures) (array_exists view c.args.at c.rows.row c.requires.fit c.requires.task below)

@@ -1,6 +1,6 @@
 use Rattle.std.proofs.Common.{Ok, Err, Some, None, ap, ◌∙◌}
 use Rattle.readout.specs.declared.refusals.Stop.TheVariants as stops
-use Rattle.readout.specs.declared.requests.Request.TheVariants.{Show, Stat}
+use Rattle.flymon_engine.specs.declared.work.Request.TheVariants.{Show, Stat}
 use Rattle.flymon_engine.specs.declared.machine.AskFault.TheVariants.{Device, Write}
 use Rattle.flymon_engine.proofs.SerialLemmas.{serial_read, serial_shown, serial_counted, serial_listed}
 use Rattle.flymon_engine.proofs.serial.Serial.answer.Goals as goal

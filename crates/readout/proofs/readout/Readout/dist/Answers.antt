@@ -1,64 +1,9 @@
-use Rattle.std.proofs.Common.{◌≡◌, List, ℕ, Ok}
-use Rattle.reg_file.proofs.ReadLemmas.{reads_none}
-use Rattle.readout.proofs.AnswerLemmas.{live_answers, refused_so, sent_so, stopped_so, refusal_told, stop_told, no_stop, one_stop, dist_lines_of}
 use Rattle.std.specs.Vec.{vec_capacity}
 use Rattle.readout.specs.PlacedTasks.{task_named}
-use Rattle.readout.proofs.DistLemmas.{dist_of, room_for}
-use Rattle.reg_file.specs.Registers.{Contents}
-use Rattle.readout.specs.PlacedTasks.{task_in, part_in, parts_in}
-use Rattle.readout.specs.Answers.{Answer, answer_by, part_named, lines_of_dist}
-use Rattle.readout.specs.Outcomes.{IsStopOf, outcome_of}
+use Rattle.readout.proofs.DistLemmas.{room_for}
 use Rattle.readout.proofs.readout.Readout.dist.Goals as goal
 
-pub returns-in_err-at-clause-replies : goal.returns-in_err-at-clause-replies
-returns-in_err-at-clause-replies g c =
-    let r = g.R.RegFile in let s = g.S.Sink in let v = g.V.TaskView in
-    let view = v.seen c.args.view.now in
-    refused_so (λ told. answer_by c.args.name.now (lines_of_dist) (parts_in told view)) (r.contents c.args.regs.now) (s.sent c.args.sink.now) (outcome_of c.from_residual.result) c.in_err-at.field-0.0
-    (refusal_told c.from_residual.result c.in_err-at.field-0.0 c.from_residual.ensures.1) c.in_err-at.ensures.refused
-
-pub returns-in_err-at-clause-cause : goal.returns-in_err-at-clause-cause
-returns-in_err-at-clause-cause g c =
-    no_stop (outcome_of c.from_residual.result) c.in_err-at.field-0.0 (IsStopOf g.R.RegFile g.S.Sink c.args.regs.now c.args.regs.now c.args.sink.now c.args.sink.now)
-    (refusal_told c.from_residual.result c.in_err-at.field-0.0 c.from_residual.ensures.1)
-
-pub returns-in_err-at-clause-reads : goal.returns-in_err-at-clause-reads
-returns-in_err-at-clause-reads g c = reads_none g.R.RegFile c.args.regs.now
-
-pub returns-in_err-send_dist-clause-cause : goal.returns-in_err-send_dist-clause-cause
-returns-in_err-send_dist-clause-cause g c =
-    let failed = c.from_residual-in_err-send_dist in
-    one_stop (outcome_of failed.result) c.in_err-send_dist.field-0.0 (IsStopOf g.R.RegFile g.S.Sink c.args.regs.now c.send_dist.new.regs c.args.sink.now c.send_dist.new.sink)
-    (stop_told failed.result c.in_err-send_dist.field-0.0 failed.ensures.1) c.in_err-send_dist.ensures.cause
-
-pub returns-clause-replies : goal.returns-clause-replies
-returns-clause-replies g c =
-    let r = g.R.RegFile in let s = g.S.Sink in let v = g.V.TaskView in
-    let view = v.seen c.args.view.now in
-    let placed = task_in view c.in_ok-at.at in
-    let answer : Contents → Answer = λ told. answer_by c.args.name.now (lines_of_dist) (parts_in told view) in
-    let lines : Contents → List ℕ = dist_of placed in
-    let all : (told : Contents) → answer told ≡ Ok (lines told) = λ told.
-    live_answers (lines_of_dist) (part_named c.args.name.now (parts_in told view)) (part_in told placed) (Ok (lines told)) (c.in_ok-at.ensures.found told) (dist_lines_of (part_in told placed) c.in_ok-at.ensures.kind) in
-    sent_so answer (r.contents c.send_dist.new.regs) (s.sent c.args.sink.now) (s.sent c.send_dist.new.sink) lines all
-    (c.in_ok-send_dist.ensures.sent)
-
-pub returns-in_err-send_dist-clause-replies : goal.returns-in_err-send_dist-clause-replies
-returns-in_err-send_dist-clause-replies g c =
-    let r = g.R.RegFile in let s = g.S.Sink in let v = g.V.TaskView in
-    let view = v.seen c.args.view.now in
-    let placed = task_in view c.in_ok-at.at in
-    let answer : Contents → Answer = λ told. answer_by c.args.name.now (lines_of_dist) (parts_in told view) in
-    let lines : Contents → List ℕ = dist_of placed in
-    let all : (told : Contents) → answer told ≡ Ok (lines told) = λ told.
-    live_answers (lines_of_dist) (part_named c.args.name.now (parts_in told view)) (part_in told placed) (Ok (lines told)) (c.in_ok-at.ensures.found told) (dist_lines_of (part_in told placed) c.in_ok-at.ensures.kind) in
-    let failed = c.from_residual-in_err-send_dist in
-    stopped_so answer (r.contents c.send_dist.new.regs) (s.sent c.args.sink.now) (s.sent c.send_dist.new.sink) lines (outcome_of failed.result) c.in_err-send_dist.field-0.0
-    (stop_told failed.result c.in_err-send_dist.field-0.0 failed.ensures.1) all
-    (c.in_err-send_dist.ensures.sent)
-
-pub send_dist-requires-clause-room : goal.send_dist-requires-clause-room
-send_dist-requires-clause-room g c =
-    let view = g.V.TaskView.seen c.args.view.now in
-    room_for (task_named c.args.name.now view) (task_in view c.in_ok-at.at) c.self.inside.bits (vec_capacity c.self.inside.cells)
-    c.in_ok-at.ensures.named (rw (← c.self.view_is) at c.requires.room) c.self.invariant.1
+pub tell_dist-requires-clause-room : goal.tell_dist-requires-clause-room
+tell_dist-requires-clause-room g c =
+    room_for (task_named c.args.name.now (g.V.TaskView.seen c.args.view.now)) c.self.inside.bits (vec_capacity c.self.inside.cells)
+    (rw (← c.self.view_is) at c.requires.room) c.self.invariant.1
