@@ -28,12 +28,16 @@ use Rattle.task_lang.specs.Printing.{command_text, command_words}
 use Rattle.task_lang.specs.Script.{add_in, alone_in, at_line, command_by, command_in, is_allowed, is_skipped, named_in, one, or_fault, packets_in, plain_line_in, query_in, resize_in, script_from, script_in, script_limit, with_front}
 use Rattle.task_lang.specs.Words.{after_label, attr_in, attr_word, full_number, kind_named, kind_word, name_in, rows_in, verb_named, verb_word}
 use Rattle.task_lang.proofs.TokenLemmas.{all_weaker, no_return}
-use Rattle.task_lang.proofs.SaidLemmas.{attr_in_said, count_bind, eight_words, kind_said, label_printed, name_said, number_said, ok_bind, ok_same, one_word, part_canonical, printed_of, rows_said, some_bind, three_words, two_words, verb_said}
+use Rattle.task_lang.proofs.SaidLemmas.{attr_in_said, count_bind, kind_said, label_printed, name_said, number_said, ok_bind, ok_same, part_canonical, printed_of, rows_said, so_many_words, some_bind, verb_said}
 
 -- ---- the words of `add`, step by step
 
 abbrev Words : Type 0
 Words = List (List ℕ)
+
+abbrev added : List ℕ → Kind → ℕ → List ℕ → Attr → Pattern → ℕ → Command
+added name kind rows key attr filter size =
+    commands.Add (record { name = name; kind = kind; rows = rows; key = key; attr = attr; filter = filter; size = size })
 
 abbrev step_size : List ℕ → (ℕ → Command) → Result Command LineFault
 step_size memory make = ok_or (full_number memory) faults.Size >>= λ size. Ok (make size)
@@ -49,15 +53,7 @@ step_key key attr filter memory kind make = or_fault faults.Key (key_in key) >>=
 
 abbrev step_rows : Words → List ℕ → List ℕ → List ℕ → List ℕ → List ℕ → Kind → Result Command LineFault
 step_rows ws key attr filter memory name kind = ok_or (rows_in kind (word_at ws 3)) faults.Rows >>= λ rows.
-    step_key key attr filter memory kind (λ mask weight pattern size. commands.Add (record {
-      name = name;
-      kind = kind;
-      rows = rows;
-      key = mask;
-      attr = weight;
-      filter = pattern;
-      size = size;
-    }))
+    step_key key attr filter memory kind (added name kind rows)
 
 abbrev step_kind : Words → List ℕ → List ℕ → List ℕ → List ℕ → List ℕ → Result Command LineFault
 step_kind ws key attr filter memory name = ok_or (kind_named (word_at ws 2)) faults.Kind >>= step_rows ws key attr filter memory name
@@ -88,72 +84,16 @@ add_words ws command canonical first e =
     let name = some_bind (name_in (word_at ws 1)) faults.Name (step_kind ws key.0 attr.0 filter.0 memory.0) command memory.2 in
     let kind = some_bind (kind_named (word_at ws 2)) faults.Kind (step_rows ws key.0 attr.0 filter.0 memory.0 name.0) command name.2 in
     let rows = some_bind (rows_in kind.0 (word_at ws 3)) faults.Rows (λ (rows : ℕ).
-    step_key key.0 attr.0 filter.0 memory.0 kind.0 (λ mask weight pattern size. commands.Add (record {
-      name = name.0;
-      kind = kind.0;
-      rows = rows;
-      key = mask;
-      attr = weight;
-      filter = pattern;
-      size = size;
-    }))) command kind.2 in
+    step_key key.0 attr.0 filter.0 memory.0 kind.0 (added name.0 kind.0 rows)) command kind.2 in
     let mask = ok_bind (key_in key.0) faults.Key (λ (mask : List ℕ).
-    step_attr attr.0 filter.0 memory.0 kind.0 (λ weight pattern size. commands.Add (record {
-      name = name.0;
-      kind = kind.0;
-      rows = rows.0;
-      key = mask;
-      attr = weight;
-      filter = pattern;
-      size = size;
-    }))) command rows.2 in
+    step_attr attr.0 filter.0 memory.0 kind.0 (added name.0 kind.0 rows.0 mask)) command rows.2 in
     let weight = some_bind (attr_in kind.0 attr.0) faults.Attr (λ (weight : Attr).
-    step_filter filter.0 memory.0 (λ pattern size. commands.Add (record {
-      name = name.0;
-      kind = kind.0;
-      rows = rows.0;
-      key = mask.0;
-      attr = weight;
-      filter = pattern;
-      size = size;
-    }))) command mask.2 in
+    step_filter filter.0 memory.0 (added name.0 kind.0 rows.0 mask.0 weight)) command mask.2 in
     let pattern = ok_bind (filter_in filter.0) faults.Filter (λ (pattern : Pattern).
-    step_size memory.0 (λ size. commands.Add (record {
-      name = name.0;
-      kind = kind.0;
-      rows = rows.0;
-      key = mask.0;
-      attr = weight.0;
-      filter = pattern;
-      size = size;
-    }))) command weight.2 in
-    let size = some_bind (full_number memory.0) faults.Size (λ (size : ℕ). Ok (commands.Add (record {
-      name = name.0;
-      kind = kind.0;
-      rows = rows.0;
-      key = mask.0;
-      attr = weight.0;
-      filter = pattern.0;
-      size = size;
-    }))) command pattern.2 in
-    let made : commands.Add (record {
-      name = name.0;
-      kind = kind.0;
-      rows = rows.0;
-      key = mask.0;
-      attr = weight.0;
-      filter = pattern.0;
-      size = size.0;
-    }) ≡ command =
-    ok_same (commands.Add (record {
-      name = name.0;
-      kind = kind.0;
-      rows = rows.0;
-      key = mask.0;
-      attr = weight.0;
-      filter = pattern.0;
-      size = size.0;
-    })) command size.2 in
+    step_size memory.0 (added name.0 kind.0 rows.0 mask.0 weight.0 pattern)) command weight.2 in
+    let size = some_bind (full_number memory.0) faults.Size (λ (size : ℕ). Ok (added name.0 kind.0 rows.0 mask.0 weight.0 pattern.0 size)) command pattern.2 in
+    let made : added name.0 kind.0 rows.0 mask.0 weight.0 pattern.0 size.0 ≡ command =
+    ok_same (added name.0 kind.0 rows.0 mask.0 weight.0 pattern.0 size.0) command size.2 in
     let name_is : word_at ws 1 ≡ name.0 = name_said (word_at ws 1) name.0 name.1 in
     let kind_is : word_at ws 2 ≡ kind_word kind.0 = kind_said (word_at ws 2) kind.0 kind.1 in
     let rows_are : word_at ws 3 ≡ decimal rows.0 = rows_said kind.0 (word_at ws 3) rows.0 canonical.rows rows.1 in
@@ -168,16 +108,8 @@ add_words ws command canonical first e =
     let memory_is : word_at ws 7 ≡ codes "memory=" ++ decimal size.0 =
     label_printed (codes "memory=") (word_at ws 7) memory.0 (decimal size.0) memory.1
     (number_said memory.0 size.0 (part_canonical (codes "memory=") (word_at ws 7) memory.0 has_no_leading_zero canonical.memory memory.1) size.1) in
-    printed_of ws (commands.Add (record {
-      name = name.0;
-      kind = kind.0;
-      rows = rows.0;
-      key = mask.0;
-      attr = weight.0;
-      filter = pattern.0;
-      size = size.0;
-    })) command made
-    (eight_words ws count.0 ∙ (λ i. first i ∷ name_is i ∷ kind_is i ∷ rows_are i ∷ key_is i ∷ attr_is i ∷ filter_is i ∷ memory_is i ∷ []))
+    printed_of ws (added name.0 kind.0 rows.0 mask.0 weight.0 pattern.0 size.0) command made
+    (so_many_words 8 ws count.0 ∙ (λ i. first i ∷ name_is i ∷ kind_is i ∷ rows_are i ∷ key_is i ∷ attr_is i ∷ filter_is i ∷ memory_is i ∷ []))
 
 -- ---- the words of the other commands
 
@@ -198,7 +130,7 @@ resize_words ws command canonical first e =
     let memory_is : word_at ws 2 ≡ codes "memory=" ++ decimal size.0 =
     label_printed (codes "memory=") (word_at ws 2) memory.0 (decimal size.0) memory.1
     (number_said memory.0 size.0 (part_canonical (codes "memory=") (word_at ws 2) memory.0 has_no_leading_zero canonical memory.1) size.1) in
-    printed_of ws (commands.Resize name.0 size.0) command made (three_words ws count.0 ∙ (λ i. first i ∷ name_is i ∷ memory_is i ∷ []))
+    printed_of ws (commands.Resize name.0 size.0) command made (so_many_words 3 ws count.0 ∙ (λ i. first i ∷ name_is i ∷ memory_is i ∷ []))
 
 query_words : (ws : Words) (command : Command) → IsTrue (is_canonical_filter (word_at ws 2)) → word_at ws 0 ≡ verb_word verbs.Query
     → query_in ws ≡ Ok command → ws ≡ command_words command
@@ -213,7 +145,7 @@ query_words ws command canonical first e =
     let made : commands.Query name.0 pattern.0 ≡ command = cc (pattern.2) in
     let name_is : word_at ws 1 ≡ name.0 = name_said (word_at ws 1) name.0 name.1 in
     let filter_is : word_at ws 2 ≡ filter_text pattern.0 = only_filter (word_at ws 2) pattern.0 pattern.1 canonical in
-    printed_of ws (commands.Query name.0 pattern.0) command made (three_words ws count.0 ∙ (λ i. first i ∷ name_is i ∷ filter_is i ∷ []))
+    printed_of ws (commands.Query name.0 pattern.0) command made (so_many_words 3 ws count.0 ∙ (λ i. first i ∷ name_is i ∷ filter_is i ∷ []))
 
 packets_words : (ws : Words) (command : Command) → IsTrue (has_no_leading_zero (word_at ws 1)) → word_at ws 0 ≡ verb_word verbs.Packets
     → packets_in ws ≡ Ok command → ws ≡ command_words command
@@ -225,7 +157,7 @@ packets_words ws command canonical first e =
     let number = some_bind (full_number (word_at ws 1)) faults.Number (λ (number : ℕ). Ok (commands.Packets number)) command count.1 in
     let made : commands.Packets number.0 ≡ command = cc (number.2) in
     let number_is : word_at ws 1 ≡ decimal number.0 = number_said (word_at ws 1) number.0 canonical number.1 in
-    printed_of ws (commands.Packets number.0) command made (two_words ws count.0 ∙ (λ i. first i ∷ number_is i ∷ []))
+    printed_of ws (commands.Packets number.0) command made (so_many_words 2 ws count.0 ∙ (λ i. first i ∷ number_is i ∷ []))
 
 named_words : (verb : Verb) (make : List ℕ → Command) → ((name : List ℕ) → command_words (make name) ≡ verb_word verb ∷ name ∷ [])
     → (ws : Words) (command : Command) → word_at ws 0 ≡ verb_word verb → named_in make ws ≡ Ok command → ws ≡ command_words command
@@ -236,7 +168,7 @@ named_words verb make printed ws command first e =
     let name = some_bind (name_in (word_at ws 1)) faults.Name (λ (name : List ℕ). Ok (make name)) command count.1 in
     let made : make name.0 ≡ command = cc (name.2) in
     let name_is : word_at ws 1 ≡ name.0 = name_said (word_at ws 1) name.0 name.1 in
-    printed_of ws (make name.0) command made ((two_words ws count.0 ∙ (λ i. first i ∷ name_is i ∷ [])) ∙ sym (printed name.0))
+    printed_of ws (make name.0) command made ((so_many_words 2 ws count.0 ∙ (λ i. first i ∷ name_is i ∷ [])) ∙ sym (printed name.0))
 
 alone_words : (verb : Verb) (lone command : Command) → command_words lone ≡ verb_word verb ∷ []
     → (ws : Words) → word_at ws 0 ≡ verb_word verb → alone_in lone ws ≡ Ok command → ws ≡ command_words command
@@ -244,7 +176,7 @@ unfolding alone_in
 alone_words verb lone command printed ws first e =
     let count = count_bind 1 ws (λ (ws : Words). Ok lone) command e in
     let made : lone ≡ command = cc (count.1) in
-    printed_of ws lone command made ((one_word ws count.0 ∙ (λ i. first i ∷ [])) ∙ sym printed)
+    printed_of ws lone command made ((so_many_words 1 ws count.0 ∙ (λ i. first i ∷ [])) ∙ sym printed)
 
 verb_words : (verb : Verb) (ws : Words) (command : Command) → AreCanonicalOperands verb ws → word_at ws 0 ≡ verb_word verb
     → command_by verb ws ≡ Ok command → ws ≡ command_words command

@@ -48,21 +48,12 @@ use Rattle.task_lang.proofs.TokenLemmas.{all_append, all_joined, decimal_graph, 
 kind_again : (kind : Kind) → kind_named (kind_word kind) ≡ Some kind
 unfolding kind_named
 kind_again kinds.Cms = refl
-kind_again kinds.SumaxSum = refl
-kind_again kinds.SumaxMax = refl
-kind_again kinds.Bloom = refl
-kind_again kinds.Mrac = refl
-kind_again kinds.Hll = refl
-kind_again kinds.FlagOr = refl
-kind_again kinds.FlagAnd = refl
+kind_again _ = refl
 
 attr_again : (attr : Attr) → attr_named (attr_word attr) ≡ Some attr
 unfolding attr_named
 attr_again attrs.Packets = refl
-attr_again attrs.Bytes = refl
-attr_again attrs.Ttl = refl
-attr_again attrs.Flags = refl
-attr_again attrs.Flow = refl
+attr_again _ = refl
 
 allowed_again : (kind : Kind) (attr : Attr) → IsTrue (allows kind attr) → attr_in kind (attr_word attr) ≡ Some attr
 unfolding attr_in
@@ -91,20 +82,11 @@ name_again name named = rw named refl
 
 kind_token : (kind : Kind) → is_token (kind_word kind) ≡ true
 kind_token kinds.Cms = refl
-kind_token kinds.SumaxSum = refl
-kind_token kinds.SumaxMax = refl
-kind_token kinds.Bloom = refl
-kind_token kinds.Mrac = refl
-kind_token kinds.Hll = refl
-kind_token kinds.FlagOr = refl
-kind_token kinds.FlagAnd = refl
+kind_token _ = refl
 
 attr_graph : (attr : Attr) → list_all is_graph (attr_word attr) ≡ true
 attr_graph attrs.Packets = refl
-attr_graph attrs.Bytes = refl
-attr_graph attrs.Ttl = refl
-attr_graph attrs.Flags = refl
-attr_graph attrs.Flow = refl
+attr_graph _ = refl
 
 decimal_token : (n : ℕ) → n < 2 ^ 32 → is_token (decimal n) ≡ true
 decimal_token n small =
@@ -113,14 +95,7 @@ decimal_token n small =
 
 name_graph : (field : Field) → list_all is_graph (name_of field) ≡ true
 name_graph SrcIp = refl
-name_graph DstIp = refl
-name_graph SrcPort = refl
-name_graph DstPort = refl
-name_graph Proto = refl
-name_graph Tos = refl
-name_graph EtherType = refl
-name_graph SrcIp6 = refl
-name_graph DstIp6 = refl
+name_graph _ = refl
 
 digit_prints : (c : ℕ) → 48 ≤ c → c ≤ 57 → is_graph c ≡ true
 digit_prints c low high = grind (arith, nat_tests)
@@ -249,19 +224,8 @@ words_read commands.Show known = (refl, refl)
 words_read commands.Stat known = (refl, refl)
 
 begun : (command : Command) → is_skipped (join_with_byte 32 (command_words command)) ≡ false
-begun (commands.Add task) = refl
-begun (commands.Resize name size) = refl
-begun (commands.Remove name) = refl
-begun (commands.Release name) = refl
-begun (commands.Packets number) = refl
 begun commands.Run = refl
-begun (commands.Read name) = refl
-begun (commands.Frozen name) = refl
-begun (commands.Query name at) = refl
-begun (commands.Dist name) = refl
-begun (commands.Card name) = refl
-begun commands.Show = refl
-begun commands.Stat = refl
+begun _ = refl
 
 -- what is printed of a command is read as that command alone
 pub command_again : (text : List ℕ) (command : Command) → text ≡ command_text command → IsCommand command → length text ≤ script_limit
@@ -293,17 +257,9 @@ unfolding verb_named
 words_canonical (commands.Add task) known = task_operands task known
 words_canonical (commands.Resize name size) known =
     behind_label (codes "memory=") (decimal size) has_no_leading_zero (number_lead size known.1)
-words_canonical (commands.Remove name) named = tt
-words_canonical (commands.Release name) named = tt
 words_canonical (commands.Packets number) small = number_lead number small
-words_canonical commands.Run known = tt
-words_canonical (commands.Read name) named = tt
-words_canonical (commands.Frozen name) named = tt
 words_canonical (commands.Query name at) known = filter_canonical at known.1
-words_canonical (commands.Dist name) named = tt
-words_canonical (commands.Card name) named = tt
-words_canonical commands.Show known = tt
-words_canonical commands.Stat known = tt
+words_canonical _ known = tt
 
 canonical_words : (command : Command) → IsCommand command → IsCanonical (join_with_byte 32 (command_words command))
 canonical_words command known =

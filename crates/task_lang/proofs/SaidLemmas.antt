@@ -1,10 +1,11 @@
 -- What each word of a command says, and that a canonical word is the printed one.
-use Rattle.std.proofs.Common.{◌≡◌, ℕ, ◌==◌, Bool, true, false, cond, List, [], ◌∷◌, ◌++◌, length, take, drop, Option, None, Some, IsTrue, ok_or, option_and_then, Result, Ok, Err, refl, ap, sym, ◌∙◌, arith}
-use Rattle.std.specs.List.{find}
+use Rattle.std.proofs.Common.{◌≡◌, ℕ, ◌==◌, Bool, true, false, cond, List, [], ◌∷◌, ◌++◌, length, map, take, drop, Option, None, Some, IsTrue, ok_or, option_and_then, Result, Ok, Err, refl, ap, sym, ◌∙◌, arith}
+use Rattle.std.specs.List.{find, range_with_len}
 use Rattle.std.specs.Fmt.{decimal}
 use Rattle.std.specs.Str.{bytes_eq}
 use Rattle.std.proofs.lemmas.Bool.Decides.{nat_tests}
-use Rattle.std.proofs.lemmas.List.{take-append-drop}
+use Rattle.std.proofs.lemmas.List.{ext_get_or, take-append-drop}
+use Rattle.std.proofs.lemmas.List.FromFn.{get_or-map-range_with_len, length-map-range_with_len}
 use Rattle.std.proofs.lemmas.Slice.Eq.{bytes_eq-Decides}
 use Rattle.texts.specs.Words.{word_at}
 use Rattle.key_mask.specs.declared.items.FieldFault.{FieldFault}
@@ -127,31 +128,10 @@ part_canonical label word rest is_canonical canonical e = rw e at canonical
 
 -- ---- so many words
 
-pub one_word : (ws : List (List ℕ)) → length ws ≡ 1 → ws ≡ word_at ws 0 ∷ []
-one_word [] e = absurd (omega (arith, e))
-one_word (a ∷ []) e = refl
-one_word (a ∷ b ∷ ws) e = absurd (omega (arith, e))
-
-pub two_words : (ws : List (List ℕ)) → length ws ≡ 2 → ws ≡ word_at ws 0 ∷ word_at ws 1 ∷ []
-two_words [] e = absurd (omega (arith, e))
-two_words (a ∷ ws) e = let rest : length ws ≡ 1 = omega (arith, e) in ap (λ found. a ∷ found) (one_word ws rest)
-
-pub three_words : (ws : List (List ℕ)) → length ws ≡ 3 → ws ≡ word_at ws 0 ∷ word_at ws 1 ∷ word_at ws 2 ∷ []
-three_words [] e = absurd (omega (arith, e))
-three_words (a ∷ ws) e = let rest : length ws ≡ 2 = omega (arith, e) in ap (λ found. a ∷ found) (two_words ws rest)
-
-five_words : (ws : List (List ℕ)) → length ws ≡ 5
-    → ws ≡ word_at ws 0 ∷ word_at ws 1 ∷ word_at ws 2 ∷ word_at ws 3 ∷ word_at ws 4 ∷ []
-five_words [] e = absurd (omega (arith, e))
-five_words (a ∷ []) e = absurd (omega (arith, e))
-five_words (a ∷ b ∷ ws) e = let rest : length ws ≡ 3 = omega (arith, e) in ap (λ found. a ∷ b ∷ found) (three_words ws rest)
-
-pub eight_words : (ws : List (List ℕ)) → length ws ≡ 8
-    → ws ≡ word_at ws 0 ∷ word_at ws 1 ∷ word_at ws 2 ∷ word_at ws 3 ∷ word_at ws 4 ∷ word_at ws 5 ∷ word_at ws 6 ∷ word_at ws 7 ∷ []
-eight_words [] e = absurd (omega (arith, e))
-eight_words (a ∷ []) e = absurd (omega (arith, e))
-eight_words (a ∷ b ∷ []) e = absurd (omega (arith, e))
-eight_words (a ∷ b ∷ c ∷ ws) e = let rest : length ws ≡ 5 = omega (arith, e) in ap (λ found. a ∷ b ∷ c ∷ found) (five_words ws rest)
+pub so_many_words : (count : ℕ) (ws : List (List ℕ)) → length ws ≡ count → ws ≡ map (word_at ws) (range_with_len 0 count)
+so_many_words count ws e =
+    ext_get_or [] ws (map (word_at ws) (range_with_len 0 count)) (e ∙ sym (length-map-range_with_len (word_at ws) 0 count))
+    (λ i inside. sym (get_or-map-range_with_len (word_at ws) 0 count i i [] (omega (arith, e, inside)) (omega arith)))
 
 -- the words printed of the command that was made
 pub printed_of : (ws : List (List ℕ)) (made command : Command) → made ≡ command → ws ≡ command_words made → ws ≡ command_words command

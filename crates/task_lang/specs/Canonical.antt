@@ -30,15 +30,7 @@ AreCanonicalOperands verbs.Add ws = AreTaskOperands ws
 AreCanonicalOperands verbs.Resize ws = IsBehind (codes "memory=") has_no_leading_zero (word_at ws 2)
 AreCanonicalOperands verbs.Packets ws = IsTrue (has_no_leading_zero (word_at ws 1))
 AreCanonicalOperands verbs.Query ws = IsTrue (is_canonical_filter (word_at ws 2))
-AreCanonicalOperands verbs.Remove ws = Unit {0}
-AreCanonicalOperands verbs.Release ws = Unit {0}
-AreCanonicalOperands verbs.Run ws = Unit {0}
-AreCanonicalOperands verbs.Read ws = Unit {0}
-AreCanonicalOperands verbs.Frozen ws = Unit {0}
-AreCanonicalOperands verbs.Dist ws = Unit {0}
-AreCanonicalOperands verbs.Card ws = Unit {0}
-AreCanonicalOperands verbs.Show ws = Unit {0}
-AreCanonicalOperands verbs.Stat ws = Unit {0}
+AreCanonicalOperands _ ws = Unit {0}
 
 abbrev pub HasCanonicalOperands : List (List ℕ) → Type 0
 HasCanonicalOperands ws = IfSome (verb_named (word_at ws 0)) (λ verb. AreCanonicalOperands verb ws)
