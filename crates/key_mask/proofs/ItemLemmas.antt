@@ -74,3 +74,25 @@ pub place_bind : {A B : Type 0} (place : ℕ) (r : Result A FieldKind) (f : A �
     → (x : A) × (r ≡ Ok x) × (f x ≡ Ok y)
 place_bind place (Ok x) f y h = (x, refl, h)
 place_bind place (Err e) f y h = absurd (let wrong : ⊥ = cc in wrong)
+
+-- what holds behind each item that is read holds behind them all
+pub items_leave : {A : Type 0} (add : A → List ℕ → Result A FieldKind) (P Q : A → Type 0)
+    → ((found next : A) (item : List ℕ) → P found → add found item ≡ Ok next → P next × Q next)
+    → (place : ℕ) (found whole : A) (item : List ℕ) (items : List (List ℕ)) → P found
+    → with_items add place found (item ∷ items) ≡ Ok whole → Q whole
+items_leave {A} add P Q each place found whole item [] before h =
+    let f : A → Result A FieldFault = λ next. Ok next in
+    let read = place_bind place (add found item) f whole h in
+    let same : read.0 ≡ whole = cc read.2 in
+    subst Q same (each found read.0 item before read.1).1
+items_leave {A} add P Q each place found whole item (next ∷ items) before h =
+    let f : A → Result A FieldFault = λ after. with_items add (place + (length item + 1)) after (next ∷ items) in
+    let read = place_bind place (add found item) f whole h in
+    items_leave add P Q each (place + (length item + 1)) read.0 whole next items (each found read.0 item before read.1).0 read.2
+
+-- and behind those of a text
+pub text_leaves : {A : Type 0} (add : A → List ℕ → Result A FieldKind) (P Q : A → Type 0)
+    → ((found next : A) (item : List ℕ) → P found → add found item ≡ Ok next → P next × Q next)
+    → (text : List ℕ) (none whole : A) → P none → with_items add 0 none (parts 44 text) ≡ Ok whole → Q whole
+text_leaves add P Q each text none whole before h =
+    items_leave add P Q each 0 none whole (front (λ b. b == 44) text) (parts_behind 44 (back (λ b. b == 44) text)) before (rw (parts_first 44 text) at h)

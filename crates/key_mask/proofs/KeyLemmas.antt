@@ -17,8 +17,7 @@ use Rattle.key_mask.specs.Items.{◌>>=◌, field_named, fresh_field, is_slash, 
 use Rattle.key_mask.specs.Keys.{is_canonical_key, is_key_item, key_in, key_text, with_item}
 use Rattle.key_mask.specs.Laws.{KeyAgain, OnlyKey}
 use Rattle.key_mask.proofs.OrderLemmas.{IsAdded, IsSpelled, item_at, items_at, named_is, only_items, printed_in_order}
-use Rattle.key_mask.proofs.ItemLemmas.{IsStep, fresh_bind, items_again, ok_bind, place_bind}
-use Rattle.texts.proofs.CutLemmas.{parts_first, parts_behind}
+use Rattle.key_mask.proofs.ItemLemmas.{IsStep, fresh_bind, items_again, ok_bind, text_leaves}
 use Rattle.key_mask.proofs.MaskLemmas.{none_stands}
 use Rattle.key_mask.proofs.FieldLemmas.{number_below}
 use Rattle.key_mask.proofs.PrefixLemmas.{length_within, each_row, prefix_again, prefix_canonical, prefix_is, prefix_pass, prefix_some}
@@ -130,24 +129,11 @@ item_stands lengths item next whole h =
           ∙ ap (λ ns. get_or ns (field_number read.field) 0) (read.next_is ∙ none) ∙ none_stands read.field),
     )
 
-items_stand : (place : ℕ) (lengths item : List ℕ) (items : List (List ℕ)) (whole : List ℕ) → length lengths ≡ 9
-    → with_items with_item place lengths (item ∷ items) ≡ Ok whole → whole ≢ no_lengths
-items_stand place lengths item [] whole long h =
-    let f : List ℕ → Result (List ℕ) FieldFault = λ next. Ok next in
-    let read = place_bind place (with_item lengths item) f whole h in
-    let same : read.0 ≡ whole = cc read.2 in
-    subst (λ ns. ns ≢ no_lengths) same (item_stands lengths item read.0 long read.1).1
-items_stand place lengths item (next ∷ items) whole long h =
-    let f : List ℕ → Result (List ℕ) FieldFault = λ found. with_items with_item (place + (length item + 1)) found (next ∷ items) in
-    let read = place_bind place (with_item lengths item) f whole h in
-    items_stand (place + (length item + 1)) read.0 next items whole (item_stands lengths item read.0 long read.1).0 read.2
-
 pub key_stands : (text : List ℕ) (read : Result (List ℕ) FieldFault) → read ≡ key_in text → IfOk read (λ mask. mask ≢ no_lengths)
 unfolding key_in
 key_stands text (Err fault) e = tt
 key_stands text (Ok whole) e =
-    let h : with_items with_item 0 no_lengths (parts 44 text) ≡ Ok whole = sym e in
-    items_stand 0 no_lengths (front (λ b. b == 44) text) (parts_behind 44 (back (λ b. b == 44) text)) whole refl (rw (parts_first 44 text) at h)
+    text_leaves with_item (λ mask. length mask ≡ 9) (λ mask. mask ≢ no_lengths) (λ lengths next item. item_stands lengths item next) text no_lengths whole refl (sym e)
 
 -- ---- what is printed of a mask in which some field stands is read as that mask
 

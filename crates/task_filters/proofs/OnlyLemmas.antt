@@ -12,7 +12,7 @@ use borrow.Rule.Slice.PartMut.{put_mid}
 use Rattle.std.proofs.lemmas.Slice.{between-put_mid, drop-put_mid, take-put_mid_below}
 use Rattle.std.proofs.lemmas.Slice.Eq.{bytes_eq-Decides}
 use Rattle.texts.specs.Cuts.{front, back, parts, tail_of}
-use Rattle.texts.proofs.CutLemmas.{joined, parts_behind, parts_first}
+use Rattle.texts.proofs.CutLemmas.{joined}
 use Rattle.key_mask.specs.declared.fields.Field.{Field}
 use Rattle.key_mask.specs.declared.items.FieldKind.{FieldKind}
 use Rattle.key_mask.specs.declared.items.FieldKind.TheVariants.{UnknownField, BadPrefix, BadValue}
@@ -23,7 +23,7 @@ use Rattle.key_mask.specs.Items.{◌>>=◌, are_in_order, field_named, fresh_fie
 use Rattle.key_mask.specs.Masks.{mask_bytes_of, no_lengths, prefix_bytes}
 use Rattle.key_mask.specs.Spellings.{is_canonical_value, value_in, value_text}
 use Rattle.key_mask.specs.Vectors.{big_endian, bytes_at, value_at, with_value}
-use Rattle.key_mask.proofs.ItemLemmas.{fresh_bind, ok_bind, place_bind}
+use Rattle.key_mask.proofs.ItemLemmas.{fresh_bind, ok_bind, text_leaves}
 use Rattle.key_mask.proofs.MaskLemmas.{none_stands}
 use Rattle.key_mask.proofs.NumberLemmas.{digit_pass}
 use Rattle.key_mask.proofs.OrderLemmas.{IsAdded, IsSpelled, item_at, items_at, named_is, only_items, printed_in_order}
@@ -271,21 +271,8 @@ item_stands found next item whole h =
           (sym (get_or-set_same found.mask number read.prefix 0 below) ∙ ap (λ ns. get_or ns number 0) (mask_next ∙ none) ∙ none_stands read.field),
     )
 
-items_stand : (place : ℕ) (found whole : Pattern) (item : List ℕ) (items : List (List ℕ)) → length found.mask ≡ 9
-    → with_items with_term place found (item ∷ items) ≡ Ok whole → whole.mask ≢ no_lengths
-items_stand place found whole item [] long h =
-    let f : Pattern → Result Pattern FieldFault = λ next. Ok next in
-    let read = place_bind place (with_term found item) f whole h in
-    let same : read.0 ≡ whole = cc read.2 in
-    subst (λ p. p.mask ≢ no_lengths) same (item_stands found read.0 item long read.1).1
-items_stand place found whole item (next ∷ items) long h =
-    let f : Pattern → Result Pattern FieldFault = λ after. with_items with_term (place + (length item + 1)) after (next ∷ items) in
-    let read = place_bind place (with_term found item) f whole h in
-    items_stand (place + (length item + 1)) read.0 whole next items (item_stands found read.0 item long read.1).0 read.2
-
 terms_stand : (text : List ℕ) (found : Pattern) → with_items with_term 0 no_terms (parts 44 text) ≡ Ok found → found.mask ≢ no_lengths
-terms_stand text found h =
-    items_stand 0 no_terms found (front (λ b. b == 44) text) (parts_behind 44 (back (λ b. b == 44) text)) refl (rw (parts_first 44 text) at h)
+terms_stand text found h = text_leaves with_term (λ terms. length terms.mask ≡ 9) (λ terms. terms.mask ≢ no_lengths) item_stands text no_terms found refl h
 
 -- ---- the law
 
