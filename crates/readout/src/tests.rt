@@ -413,7 +413,7 @@ fn requests_of_two_tasks(rt: HostRuntime) -> Result<(), Fail> {
     assert_eq!(rt; sink.sent(), b"".as_slice());
     let line = refused_line(&ask, &name, Refusal::NoAnswer);
     assert_eq!(rt; line.as_str(), "refused dist hot no answer\n");
-    let other = Name::parse(b"other").ok_or("a name")?;
+    let other = Name::parse(b"m").ok_or("a name")?;
     let told = readout.read_out(&view, &mut regs, &standard(), &other, &ask, &mut sink);
     assert_eq!(rt; told, Ok(Ok(())));
     Ok(())
