@@ -182,9 +182,6 @@ all_served geometry groups key (s ∷ slots) =
     by None = tt
     by (Some place) = refl
 
-no_more_held : (os : List Outline) → all_held os ++ [] ≡ all_held os
-no_more_held os = append-nil (all_held os)
-
 no_spots : (os : List Outline) → all_spots os ++ all_spots [] ≡ all_spots os
 unfolding all_spots
 no_spots os = append-nil (all_spots os)

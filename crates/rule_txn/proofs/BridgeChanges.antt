@@ -28,12 +28,6 @@ use Rattle.rule_txn.specs.Seen.{StandsFor, records_after}
 
 -- ---- before any task
 
--- a switch with no tasks stands for none, whatever the registers hold
-pub none_stand : (geometry : Geometry) (hash_key : List ℕ) (contents : Contents)
-    → StandsFor (let state : SwitchState = record { geometry = geometry; hash_key = hash_key; outlines = [] } in state) [] contents
-unfolding all_stands
-none_stand geometry hash_key contents = record { sound = none_sound geometry; same = refl; laid = All-nil (HoldsCells hash_key contents) }
-
 -- ---- what stays outside the regions of a change
 
 none_in : (fresh : List Holding) (s : Stand) (j : ℕ) → All (λ h. ShareNone h (holding_of s)) fresh → j < 2 ^ s.region.bits

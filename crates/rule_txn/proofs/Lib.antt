@@ -26,12 +26,10 @@ mod Removed
 mod Resizes
 mod Refilled
 mod Added
-pub mod LookChanges
 pub mod LookViews
 pub mod LookStarts
 pub mod BridgePipe
 pub mod SwitchRules
-pub mod ShownView
 mod ShownValues
 mod Resized
 mod Goes

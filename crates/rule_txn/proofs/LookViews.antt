@@ -39,11 +39,6 @@ use Rattle.rule_txn.proofs.BridgeLemmas.{rules_in, packet_stands}
 
 -- ---- tasks and rows
 
-pub rows_at : (os : List Outline) (at : ℕ) (o : Outline) → at < length os → ((d : Outline) → o ≡ get_or os at d)
-    → (get_or (map placed_task os) at no_placed_task) ≡ placed_task o
-rows_at os at o within is =
-    get_or-map placed_task os at (let n : Outline = record { task = no_task; frozen = None; rows = [] } in n) ∙ ap placed_task (sym (is _))
-
 pub named_at : (name : List ℕ) (os : List Outline) → position (is_called name) os ≡ position (is_named name) (map placed_task os)
 named_at name os = sym (mapped_position (is_named name) placed_task os)
 

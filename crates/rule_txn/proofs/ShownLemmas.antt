@@ -204,16 +204,6 @@ parts_seen state records contents for =
     ap (λ os. map (part_in contents) (map placed_task os)) for.same
     ∙ parts_told state.geometry state.hash_key contents records for.sound.tasks (by_records state.hash_key contents records for.laid)
 
--- the part that is shown of the live task of a name
-pub named_seen : (hash_key name : List ℕ) (records : List Record) → part_named name (parts_shown hash_key records) ≡ option_map (part_shown hash_key) (part_of name records)
-named_seen hash_key name [] = refl
-named_seen hash_key name (r ∷ rs) = by (bytes_eq r.part.task.name name) (named_seen hash_key name rs) where
-  by : (b : Bool) → part_named name (parts_shown hash_key rs) ≡ option_map (part_shown hash_key) (part_of name rs)
-      → cond b (Some (part_shown hash_key r.part)) (part_named name (parts_shown hash_key rs))
-      ≡ option_map (part_shown hash_key) (option_map (λ (r : Record). r.part) (cond b (Some r) (find (has_name name) rs)))
-  by true rest = refl
-  by false rest = rest
-
 -- ---- room for a row
 
 fits_within : (geometry : Geometry) (bits array : ℕ) (region : Block) → LiesIn geometry array region → region.bits ≡ bits → bits ≤ greatest_bits geometry

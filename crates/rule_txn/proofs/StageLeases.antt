@@ -47,9 +47,6 @@ set_twice (x ∷ xs) (suc i) a b = ap (λ ys. x ∷ ys) (set_twice xs i a b)
 
 -- ---- one pool
 
-with_taken : PoolState → List Block → PoolState
-with_taken pool regions = record pool { taken = regions }
-
 -- the pool after a region was taken
 pub pool_after : (pools : List PoolState) (array : ℕ) (region : Block) → array < length pools
     → pool_at (with_region pools array region) array ≡ record (pool_at pools array) { taken = put_by_base region (pool_at pools array).taken }

@@ -1,7 +1,11 @@
 -- The answers of a change.
 use Rattle.std.specs.Prelude.{◌≡◌, Option, None, Some, Result, Ok, Err}
 use Rattle.placer.specs.declared.places.Refusal.TheVariants as places
+use Rattle.reg_file.specs.declared.traits.ShapeFail.{ShapeFail}
+use Rattle.reg_file.specs.declared.traits.ShapeFail.TheVariants as shapes
 use Rattle.switch_model.specs.Changes.{Refusal, Exists, BadMemory, Misplaced, Unknown, FrozenHeld, NoRoom, NoFrozen, Edit, edited_outlines}
+use Rattle.rule_txn.specs.declared.faults.StartFail.{StartFail}
+use Rattle.rule_txn.specs.declared.faults.StartFail.TheVariants as starts
 use Rattle.rule_txn.specs.declared.faults.AddFault.{AddFault}
 use Rattle.rule_txn.specs.declared.faults.AddFault.TheVariants as added
 use Rattle.rule_txn.specs.declared.faults.ResizeFault.{ResizeFault}
@@ -10,6 +14,11 @@ use Rattle.rule_txn.specs.declared.faults.ReleaseFault.{ReleaseFault}
 use Rattle.rule_txn.specs.declared.faults.ReleaseFault.TheVariants as released
 use Rattle.rule_txn.specs.declared.faults.Unknown as unknown
 use Rattle.rule_txn.specs.Switch.{SwitchState}
+
+-- why a switch does not start, by why the register file got no shape
+abbrev pub start_fail_of : ShapeFail → StartFail
+start_fail_of shapes.Memory = starts.Memory
+start_fail_of shapes.Device = starts.Device
 
 -- why the tasks refuse a change, by its fault; none where the register file refused it
 abbrev pub add_cause : AddFault → Option Refusal

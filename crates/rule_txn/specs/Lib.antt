@@ -5,3 +5,4 @@ pub mod Changes
 pub mod Fills
 pub mod Stages
 pub mod Seen
+pub mod Laws

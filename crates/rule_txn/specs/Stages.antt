@@ -17,15 +17,6 @@ use Rattle.rule_txn.specs.declared.rows.Served.TheVariants.{Single, Pair}
 use Rattle.rule_txn.specs.State.{State, Lent, there, units_for}
 use Rattle.rule_txn.specs.Rows.{Groups, with_lease}
 
--- the pool of a lease had room for one region more
-abbrev pub HadRoom : List PoolState → Option Lent → Type 0
-HadRoom pools None = Unit {0}
-HadRoom pools (Some lease) = length (pool_at pools lease.pool).taken < 2 ^ (pool_at pools lease.pool).split
-
-abbrev pub HadRoomAll : List PoolState → List (Option Lent) → Type 0
-HadRoomAll pools [] = Unit {0}
-HadRoomAll pools (lease ∷ rest) = HadRoom pools lease × HadRoomAll (with_lease pools lease) rest
-
 -- what the pipe has of it
 abbrev pub rules_in : State → Rules
 rules_in state = rules_of state.geometry state.hash_key state.tables state.groups

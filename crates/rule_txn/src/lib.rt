@@ -3,7 +3,7 @@
 
 mod faults;
 mod fills;
-mod laws;
+pub mod laws;
 mod making;
 mod rows;
 mod seats;
@@ -11,5 +11,5 @@ mod stage;
 mod switch;
 
 pub use faults::{AddFault, ReleaseFault, ResizeFault, StartFail, Unknown};
-pub use laws::{add_restored, one_call_an_array};
+pub use laws::{add_restored, change_stands, one_call_an_array};
 pub use switch::Switch;

@@ -5,7 +5,7 @@ ghost use Rattle.outside.specs.Told.{Told, Stays};
 ghost use Rattle.std.specs.List.{All, AllPairs};
 ghost use Rattle.partition_pool.specs.Pools.{PoolState};
 ghost use Rattle.rule_txn.specs.Rows.{fresh_leases, taken, CanTake, leased_rows, AreServed, moved_all, CanMoveAll, lives, frozens, given, CanGive, with_uses, less_uses, CanServeAll, CanFreeAll, first_turn, with_rows, less_rows, CanSettleAll, CanLeaveAll};
-ghost use Rattle.rule_txn.specs.Stages.{HadRoomAll, ArePools, IsPlace, ArePlaces, found_in, rules_in, served_on, arrays_there};
+ghost use Rattle.rule_txn.specs.Stages.{ArePools, IsPlace, ArePlaces, found_in, rules_in, served_on, arrays_there};
 ghost use Rattle.placer.specs.Sights.{bits_for};
 ghost use Rattle.placer.specs.Placement.{placed, sight_in, first_full};
 ghost use Rattle.rule_txn.specs.Switch.{first_state};
@@ -145,7 +145,6 @@ impl Stage {
         ensures state { IfOk result (λ leases. self.new ≡ record self.old {
           pools = taken leases self.old.pools;
         }) }
-        ensures room { IfOk result (HadRoomAll self.old.pools) }
         ensures refused { OnErr result (self.new ≡ self.old) }
         ensures cause { HasCause (R.faults regs.old) (R.faults regs.new) result }
         ensures dims { R.dims regs.new ≡ R.dims regs.old }

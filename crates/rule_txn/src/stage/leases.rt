@@ -2,7 +2,6 @@
 ghost use Rattle.std.specs.Prelude.{◌≡◌, Some};
 ghost use Rattle.rule_txn.specs.Rows.{next_lease, with_lease, less_lease, fresh_leases, taken, given, given_back, GivesAt, CanTake, IsLent, CanGive, CanGiveBack};
 ghost use Rattle.rule_txn.specs.State.{Gives};
-ghost use Rattle.rule_txn.specs.Stages.{HadRoom, HadRoomAll};
 
 use super::Stage;
 use partition_pool::{Frozen, Lease, Live};
@@ -12,7 +11,6 @@ impl Stage {
         requires { Gives bits self.old.pools array }
         ensures lease { Some result ≡ next_lease bits self.old.pools (Some array) }
         ensures state { self.new ≡ record self.old { pools = with_lease self.old.pools (Some result) } }
-        ensures room { HadRoom self.old.pools (Some result) }
     {
         match self.pools[array as usize].take(bits) {
             Some(lease) => lease,
@@ -24,7 +22,6 @@ impl Stage {
         requires { GivesAt bits self.old.pools array }
         ensures lease { result ≡ next_lease bits self.old.pools array }
         ensures state { self.new ≡ record self.old { pools = with_lease self.old.pools result } }
-        ensures room { HadRoom self.old.pools result }
     {
         match array {
             Some(array) => Some(self.take_one(array, bits)),
@@ -40,7 +37,6 @@ impl Stage {
         requires { CanTake bits self.old.pools arrays }
         ensures leases { result ≡ fresh_leases bits self.old.pools arrays }
         ensures state { self.new ≡ record self.old { pools = taken result self.old.pools } }
-        ensures room { HadRoomAll self.old.pools result }
     {
         let [one, two, three, four] = arrays;
         let one = self.take(one, bits);

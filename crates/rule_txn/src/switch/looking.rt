@@ -2,9 +2,10 @@
 ghost use Rattle.std.specs.Prelude.{◌≡◌, ◌<◌, ◌≤◌, ◌^◌, length, map, slice_index_or, IfOk, IfSome};
 ghost use Rattle.outside.specs.Faults.{HasCause};
 ghost use Rattle.addr_translate.specs.Geometry.{IsGeometry, array_count, greatest_bits};
+ghost use Rattle.reg_file.specs.Calls.{MakesOver};
 ghost use Rattle.reg_file.specs.Reads.{OnlyReads};
 ghost use Rattle.pipe_core.specs.Rules.{IsPipe, IsShaped};
-ghost use Rattle.pipe_core.specs.Flow.{stages_in};
+ghost use Rattle.pipe_core.specs.Flow.{calls_over, stages_in};
 ghost use Rattle.readout.specs.PlacedTasks.{task_in, place_in, no_place, live_bits, frozen_bits, IsPlaced, block_of, HasSide, IsFit, AreWithin, register_at};
 ghost use Rattle.switch_model.specs.Sights.{all_held, all_spots, all_uses};
 ghost use Rattle.switch_model.specs.Soundness.{Sound};
@@ -28,6 +29,8 @@ impl Switch {
         requires { IsShaped self.now.geometry (R.dims regs.old) }
         ensures faults { R.faults regs.new ≡ R.faults regs.old }
         ensures dims { R.dims regs.new ≡ R.dims regs.old }
+        ensures step { MakesOver (λ contents. calls_over (rules_for self.now) contents packet.now)
+            (R.contents regs.old) (R.contents regs.new) (R.calls regs.old) (R.calls regs.new) }
         ensures over { PassesOver self.now packet.now (R.contents regs.old) (R.contents regs.new) (R.calls regs.old) (R.calls regs.new) }
     {
         self.pipe().step(packet, regs);

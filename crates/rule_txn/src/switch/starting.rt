@@ -5,6 +5,7 @@ ghost use Rattle.outside.specs.Told.{Told};
 ghost use Rattle.reg_file.specs.Registers.{AreZero};
 ghost use Rattle.pipe_core.specs.Rules.{IsShaped};
 ghost use Rattle.rule_txn.specs.Switch.{SwitchState, most_records};
+ghost use Rattle.rule_txn.specs.Changes.{start_fail_of};
 ghost use Rattle.rule_txn.specs.Seen.{StandsFor};
 
 use super::Switch;
@@ -23,7 +24,8 @@ fn most_records(shape: &Shape) -> usize
 }
 
 fn from_shape(fail: ShapeFail) -> StartFail
-    ensures { result ≡ StartFail.Device → fail ≡ ShapeFail.Device }
+    ensures value { result ≡ start_fail_of fail }
+    ensures device { result ≡ StartFail.Device → fail ≡ ShapeFail.Device }
 {
     match fail {
         ShapeFail::Memory => StartFail::Memory,
