@@ -1,20 +1,12 @@
 -- Generated files tell whatever they hold.
-use Rattle.std.proofs.Common.{◌≡◌, ℕ, ◌==◌, Bool, true, false, cond, Option, None, Some, codes, refl}
+use Rattle.std.proofs.Common.{◌≡◌, ℕ, ◌==◌, Bool, true, false, cond, Option, None, Some, refl}
 use Rattle.std.specs.Prelude.{IsSome}
 use Rattle.std.specs.List.{slice_index_or}
 use Rattle.fm_io.specs.Slots.{Slot, slot_at}
 use Rattle.gen_capture.specs.declared.gen_files.GenFiles.{GenFiles}
 use Rattle.gen_capture.specs.declared.places.Place.{Place}
-use Rattle.gen_capture.specs.Captures.{capture_text}
-use Rattle.gen_capture.specs.Scripts.{script_text}
-use Rattle.gen_capture.specs.Places.{text_in, slot_in}
+use Rattle.gen_capture.specs.Places.{slot_in}
 use Rattle.gen_capture.specs.GenFiles.{slots_of}
-
-pub script_of_name : (seed count : ℕ) → text_in seed count (codes "script") ≡ Some script_text
-script_of_name seed count = refl
-
-pub capture_of_name : (seed count : ℕ) → text_in seed count (codes "capture") ≡ Some (capture_text seed count)
-capture_of_name seed count = refl
 
 abbrev Tells : Slot → Type 0
 Tells slot = slot.attached ≡ true → IsSome slot.cursor

@@ -3,4 +3,4 @@ mod ScriptLemmas
 mod PlaceLemmas
 mod CaptureLemmas
 mod Values
-pub mod GenFilesLemmas
+mod GenFilesLemmas

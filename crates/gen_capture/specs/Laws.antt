@@ -1,5 +1,6 @@
 -- What is true of the generated captures.
-use Rattle.std.specs.Prelude.{◌≡◌, ℕ, ◌+◌, ◌≤◌, List, [], ◌∷◌, ◌++◌, None, Ok, replicate}
+use Rattle.std.specs.Prelude.{◌≡◌, ℕ, ◌+◌, ◌≤◌, true, List, [], ◌∷◌, ◌++◌, None, Ok, IsSome, replicate}
+use Rattle.fm_io.specs.Slots.{slot_at}
 use Rattle.capture_read.specs.Records.{Record}
 use Rattle.capture_read.specs.Reading.{capture_in}
 use Rattle.pkt_headers.specs.declared.packets.Packet.{Packet}
@@ -8,6 +9,8 @@ use Rattle.gen_capture.specs.declared.packets.GenPacket.{GenPacket}
 use Rattle.gen_capture.specs.Packets.{packets_after}
 use Rattle.gen_capture.specs.Frames.{source_address, destination_address, ports, frame_of}
 use Rattle.gen_capture.specs.Captures.{capture_text}
+use Rattle.gen_capture.specs.declared.gen_files.GenFiles.{GenFiles}
+use Rattle.gen_capture.specs.GenFiles.{slots_of}
 
 -- the record of a packet that begins at this place: its whole frame, its length, and 70 bytes in all
 abbrev pub record_of : ℕ → GenPacket → Record
@@ -37,3 +40,8 @@ read_as packet = record {
 -- what is read of a generated frame are the fields of its packet
 abbrev pub FramesAreRead : Type 0
 FramesAreRead = (packet : GenPacket) → packet_in (frame_of packet) packet.len ≡ read_as packet
+
+-- each slot with a text tells its bytes and position
+abbrev pub FilesTell : Type 0
+FilesTell = (files : GenFiles) (number : ℕ)
+    → (slot_at (slots_of files) number).attached ≡ true → IsSome (slot_at (slots_of files) number).cursor

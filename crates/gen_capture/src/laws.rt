@@ -1,5 +1,5 @@
 //! What is true of the generated captures.
-ghost use Rattle.gen_capture.specs.Laws.{CapturesAreWhole, FramesAreRead};
+ghost use Rattle.gen_capture.specs.Laws.{CapturesAreWhole, FramesAreRead, FilesTell};
 
 use capture_read::laws::reads_back_what_is_written;
 
@@ -13,4 +13,9 @@ pub fn captures_are_whole()
 /// What is read of a generated frame are the addresses, ports and length of its packet.
 pub fn frames_are_read()
     ensures { FramesAreRead }
+{}
+
+/// Each slot with a text tells its bytes and position.
+pub fn files_tell()
+    ensures { FilesTell }
 {}

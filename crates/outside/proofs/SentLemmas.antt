@@ -1,34 +1,13 @@
 -- How what came so far goes on.
-use Rattle.std.proofs.Common.{◌≡◌, ◌<◌, List, ◌++◌, [], Option, length, refl, ◌∙◌, ap, sym, append_assoc, subst, arith}
-use Rattle.std.proofs.lemmas.List.{append-nil, length-append}
-use Rattle.outside.specs.Told.{Stays, Grows}
+use Rattle.std.proofs.Common.{◌≡◌, ◌<◌, List, ◌++◌, [], Option, length, refl, ◌∙◌, ap, sym, append_assoc, arith}
+use Rattle.std.proofs.lemmas.List.{length-append}
+use Rattle.outside.specs.Told.{Stays}
 use Rattle.outside.specs.Sent.{CameSoFar, CameInFront, CameInPart}
-use Rattle.outside.proofs.ToldLemmas.{stays_same, grows_none, grows_then, grows_stays, stays_grows}
+use Rattle.outside.proofs.ToldLemmas.{grows_none, grows_then}
 
 -- nothing yet
 pub none_came : {A : Type 0} (a b : Option (List A)) (all : List A) → Stays a b → CameSoFar a all all b
 none_came a b all s = record { front = []; grows = grows_none a b s; whole = refl }
-
--- a piece more
-pub more_came : {A : Type 0} (a b c : Option (List A)) (all piece rest : List A)
-    → CameSoFar a all (piece ++ rest) b → Grows b piece c → CameSoFar a all rest c
-more_came a b c all piece rest far grew =
-    record {
-      front = far.front ++ piece;
-      grows = grows_then a b c far.front piece far.grows grew;
-      whole = append_assoc far.front piece rest ∙ far.whole;
-    }
-
--- nothing more
-pub same_came : {A : Type 0} (a b c : Option (List A)) (all rest : List A)
-    → CameSoFar a all rest b → Stays b c → CameSoFar a all rest c
-same_came a b c all rest far same =
-    record { front = far.front; grows = grows_stays a b c far.front far.grows same; whole = far.whole }
-
--- all came
-pub all_came : {A : Type 0} (a b : Option (List A)) (all : List A) → CameSoFar a all [] b → Grows a all b
-all_came a b all far =
-    let e : far.front ≡ all = sym (append-nil far.front) ∙ far.whole in subst (λ xs. Grows a xs b) e far.grows
 
 joined : {A : Type 0} (f g r s piece all : List A) → g ++ r ≡ piece → f ++ (piece ++ s) ≡ all → (f ++ g) ++ (r ++ s) ≡ all
 joined f g r s piece all e w =
@@ -70,27 +49,4 @@ front_came a b c all piece rest far front some = record {
     grows = grows_then a b c far.front front.so_far.front far.grows front.so_far.grows;
     whole = joined far.front front.so_far.front front.rest rest piece all front.so_far.whole far.whole;
   };
-}
-
--- a front of a text is one of every longer text
-pub part_of_more : {A : Type 0} (a b : Option (List A)) (piece rest : List A) → CameInPart a piece b → CameInPart a (piece ++ rest) b
-part_of_more a b piece rest part = part_came a a b (piece ++ rest) piece rest (none_came a a (piece ++ rest) (stays_same a)) part
-
--- a first piece came whole, and what follows it in part
-pub part_behind : {A : Type 0} (a b c : Option (List A)) (piece rest : List A) → Grows a piece b → CameInPart b rest c → CameInPart a (piece ++ rest) c
-part_behind a b c piece rest grew part = record {
-  rest = part.rest;
-  left = part.left;
-  so_far = record {
-    front = piece ++ part.so_far.front;
-    grows = grows_then a b c piece part.so_far.front grew part.so_far.grows;
-    whole = append_assoc piece part.so_far.front part.rest ∙ ap (λ t. piece ++ t) part.so_far.whole;
-  };
-}
-
--- nothing came, and then a front
-pub front_after : {A : Type 0} (a b c : Option (List A)) (all : List A) → Stays a b → CameInFront b all c → CameInFront a all c
-front_after a b c all same front = record {
-  rest = front.rest;
-  so_far = record { front = front.so_far.front; grows = stays_grows a b c front.so_far.front same front.so_far.grows; whole = front.so_far.whole };
 }

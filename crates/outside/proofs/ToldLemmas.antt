@@ -1,5 +1,5 @@
 -- How what is told goes on through calls.
-use Rattle.std.proofs.Common.{List, ◌++◌, [], Option, None, Some, refl, ◌∙◌, ap, sym, append_assoc, IfSome, subst}
+use Rattle.std.proofs.Common.{List, ◌++◌, [], Option, None, Some, refl, ◌∙◌, ap, sym, append_assoc}
 use Rattle.std.proofs.lemmas.List.{append-nil}
 use Rattle.outside.specs.Told.{Told, Stays, Grows}
 
@@ -37,9 +37,3 @@ grows_stays a b c xs r s = told_then a b c (λ x y z p q. q ∙ p) r s
 
 pub stays_grows : {A : Type 0} (a b c : Option (List A)) (xs : List A) → Stays a b → Grows b xs c → Grows a xs c
 stays_grows a b c xs r s = told_then a b c (λ x y z p q. q ∙ ap (λ l. l ++ xs) p) r s
-
--- what holds of a value told before holds where it is still told
-pub holds_while_told : {A : Type 0} (P : A → Type 0) (a b : Option A) → Stays a b → IfSome a P → IfSome b P
-holds_while_told P a None s h = tt
-holds_while_told P None (Some y) s h = absurd s
-holds_while_told P (Some x) (Some y) s h = subst P (sym s) h

@@ -2,6 +2,11 @@
 use Rattle.std.specs.Prelude.{◌≡◌, ◌<◌, List, ◌++◌, length, Option, Result, Ok, Err}
 use Rattle.outside.specs.Told.{Grows}
 
+-- a list begins with this front
+pub record IsFront {A : Type 0} (front all : List A) : Type 0 where
+  pub rest : List A
+  pub whole : front ++ rest ≡ all
+
 -- all but `rest` came: what is told grew by a front of `all`, and `rest` is still to come
 pub record CameSoFar {A : Type 0} (before : Option (List A)) (all rest : List A) (after : Option (List A)) : Type 0 where
   pub front : List A
