@@ -6,8 +6,7 @@ use Rattle.outside.specs.Sent.{CameInFront}
 use Rattle.capture_read.specs.declared.records.CaptureFault.{CaptureFault}
 use Rattle.capture_read.specs.declared.records.CaptureFault.TheVariants.{ShortHeader, BadMagic, BadLink, ShortRecord, BigRecord, Read}
 use Rattle.key_mask.specs.declared.items.FieldFault.{FieldFault}
-use Rattle.key_mask.specs.declared.items.FieldKind.{FieldKind}
-use Rattle.key_mask.specs.declared.items.FieldKind.TheVariants.{UnknownField, RepeatedField, BadPrefix, BadValue}
+use Rattle.key_mask.specs.Items.{field_words}
 use Rattle.sw_profile.specs.Words.{fault_text}
 use Rattle.task_lang.specs.declared.commands.LineFault.{LineFault}
 use Rattle.task_lang.specs.declared.commands.LineFault.TheVariants as lines
@@ -36,12 +35,6 @@ fault_words (BigRecord offset len) = codes "big record at " ++ (decimal offset +
 fault_words Read = codes "short header\n"
 
 -- what is wrong with an item of a key or a filter, and where the item stands
-abbrev pub field_words : FieldKind → List ℕ
-field_words UnknownField = codes "unknown field "
-field_words RepeatedField = codes "repeated field "
-field_words BadPrefix = codes "bad prefix "
-field_words BadValue = codes "bad value "
-
 abbrev pub item_words : List ℕ → FieldFault → List ℕ
 item_words word fault = word ++ (field_words fault.kind ++ (decimal fault.place ++ codes "\n"))
 

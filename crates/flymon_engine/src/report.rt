@@ -1,13 +1,13 @@
 //! The message of a run that stops.
 ghost use Rattle.std.specs.Prelude.{◌≡◌, ◌≤◌, ◌++◌, length, codes, decimal};
 ghost use Rattle.sw_profile.specs.Words.{fault_text};
-ghost use Rattle.flymon_engine.specs.Messages.{message_of, refusal_words, halt_words, fault_words, script_words, line_words, item_words, field_words, file_words, SendsMessage};
+ghost use Rattle.flymon_engine.specs.Messages.{message_of, refusal_words, halt_words, fault_words, script_words, line_words, item_words, file_words, SendsMessage};
 
 use crate::stop::{File, Halt, Refusal, Stop};
 use capture_read::CaptureFault;
 use fm_io::{Sink, write_whole};
 use itoa::Buffer;
-use key_mask::{FieldFault, FieldKind, Line};
+use key_mask::{FieldFault, Line};
 use sw_profile::ProfileFault;
 use task_lang::{LineFault, ScriptFault};
 
@@ -124,19 +124,7 @@ fn push_item(line: &mut Line, word: &str, fault: FieldFault)
     ensures { line.new.bytes ≡ line.old.bytes ++ item_words word.now fault }
 {
     line.push_str(word);
-    push_number(line, field_words(fault.kind), fault.place as u64);
-}
-
-fn field_words(kind: FieldKind) -> &'static str
-    ensures words { result.now ≡ field_words kind }
-    ensures short { length result.now ≤ 20 }
-{
-    match kind {
-        FieldKind::UnknownField => "unknown field ",
-        FieldKind::RepeatedField => "repeated field ",
-        FieldKind::BadPrefix => "bad prefix ",
-        FieldKind::BadValue => "bad value ",
-    }
+    push_number(line, fault.kind.words(), fault.place as u64);
 }
 
 /// What is wrong with a capture. A failed read is never told here: it stops a run as an input fault.
