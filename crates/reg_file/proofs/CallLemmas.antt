@@ -15,7 +15,7 @@ use Rattle.stateful_ops.specs.declared.ops.Op.{Op}
 use Rattle.stateful_ops.specs.Ops.{carry_of}
 use Rattle.reg_file.specs.declared.traits.Call.{Call}
 use Rattle.reg_file.specs.Registers.{Contents, MakesCall}
-use Rattle.reg_file.specs.Calls.{made, all_made, carry_in, handed, is_on, Makes, MakesOver}
+use Rattle.reg_file.specs.Calls.{made, all_made, carry_in, handed, is_on, Makes}
 
 -- ---- one call
 
@@ -112,32 +112,3 @@ makes_then one two outs mid_outs new_outs contents mid_contents new_contents lis
 }
 
 -- ---- what was made over registers that are told
-
-pub over_none : (contents new_contents : Option Contents) (list new_list : Option (List Call))
-    → Stays contents new_contents → Stays list new_list → MakesOver (λ c. []) contents new_contents list new_list
-over_none contents new_contents list new_list same same_list = record {
-  calls = [];
-  joined = grows_none list new_list same_list;
-  told = told_weaker contents new_contents (λ x y p. (refl, p)) same;
-}
-
-pub over_then : (one two : Contents → List Call) (contents mid_contents new_contents : Option Contents) (list mid_list new_list : Option (List Call))
-    → MakesOver one contents mid_contents list mid_list
-    → MakesOver two mid_contents new_contents mid_list new_list
-    → MakesOver (λ c. one c ++ two (all_made c (one c))) contents new_contents list new_list
-over_then one two contents mid_contents new_contents list mid_list new_list m n = record {
-  calls = m.calls ++ n.calls;
-  joined = grows_then list mid_list new_list m.calls n.calls m.joined n.joined;
-  told = told_then contents mid_contents new_contents (λ x y z p q. (
-    ap₂ (λ xs ys. xs ++ ys) p.0 (q.0 ∙ ap two (p.1 ∙ ap (all_made x) p.0)),
-    q.1 ∙ ap (λ c. all_made c n.calls) p.1 ∙ sym (fold-append made x m.calls n.calls),
-  )) m.told n.told;
-}
-
-pub over_same : (one two : Contents → List Call) (contents new_contents : Option Contents) (list new_list : Option (List Call))
-    → ((c : Contents) → one c ≡ two c) → MakesOver one contents new_contents list new_list → MakesOver two contents new_contents list new_list
-over_same one two contents new_contents list new_list e m = record {
-  calls = m.calls;
-  joined = m.joined;
-  told = told_weaker contents new_contents (λ x y p. (p.0 ∙ e x, p.1)) m.told;
-}
