@@ -20,9 +20,9 @@ use Rattle.pipe_flight.specs.Orders.{NobodyAt, OldFirst, is_old}
 use Rattle.pipe_flight.specs.Schedules.{Fill, filled, AreAt, Avoids}
 use Rattle.pipe_flight.specs.Drains.{with_now}
 use Rattle.pipe_flight.specs.States.{versions}
-use Rattle.pipe_flight.proofs.Agreements.{SameAt}
+use Rattle.pipe_flight.proofs.Agreements.{Reaches, SameAt}
 use Rattle.pipe_flight.proofs.PlaceLemmas.{InGroup, FromGroup, same_after, staged_from}
-use Rattle.pipe_flight.proofs.DrainLemmas.{Reaches, BothStaged, Advances, drain_first, rest_same, rest_at, same_made, reaches_from, stages_staged, advances}
+use Rattle.pipe_flight.proofs.DrainLemmas.{BothStaged, Advances, drain_first, rest_same, rest_at, same_made, reaches_from, stages_staged, advances}
 use Rattle.pipe_flight.proofs.CommitLemmas.{rest_none, kept_rest}
 use Rattle.pipe_flight.proofs.OrderLemmas.{old_split, all_present}
 use Rattle.pipe_flight.proofs.LawLemmas.{olds_reach}

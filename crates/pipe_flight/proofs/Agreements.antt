@@ -44,8 +44,16 @@ pub record IsOf {P : Type 0} (group_of : ℕ → ℕ) (rules : Versions P) (cont
   pub whole : calls ≡ done ++ rest_of rules contents one
   pub behind : AreAt (λ a i. group_of a < one.group) done
 
-pub record AvoidsAll {P : Type 0} (rules : Versions P) (fill : Fill) (flight : List (Flying P)) : Type 0 where
-  pub avoid : All (λ (one : Flying P). (g : ℕ) (o : List ℕ) → one.group ≤ g → AreAt (λ a i. fill.test a i ≡ false) (stages_of rules one g one.packet o)) flight
+-- from its group on the packet's calls are at such places
+pub record Reaches {P : Type 0} (Place : ℕ → ℕ → Type 0) (rules : Versions P) (one : Flying P) : Type 0 where
+  pub at : (g : ℕ) (o : List ℕ) → one.group ≤ g → AreAt Place (stages_of rules one g one.packet o)
+
+abbrev pub Unfilled : Fill → ℕ → ℕ → Type 0
+Unfilled fill array addr = fill.test array addr ≡ false
+
+-- no packet will call on a register that is filled
+abbrev pub AvoidsAll : {P : Type 0} → Versions P → Fill → List (Flying P) → Type 0
+AvoidsAll rules fill flight = All (Reaches (Unfilled fill) rules) flight
 
 -- the packets in flight, the last first, in a trace
 abbrev pub Follows : {P : Type 0} → (ℕ → ℕ) → Versions P → Contents → List (Flying P) → List Item → Type 0

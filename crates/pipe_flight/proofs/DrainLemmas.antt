@@ -11,7 +11,7 @@ use Rattle.pipe_core.specs.Flow.{Stages, flow}
 use Rattle.pipe_flight.specs.Flights.{Flying, Versions, entering, stages_of, calls_next, moved_on, rest_of, drained, drain}
 use Rattle.pipe_flight.specs.Schedules.{AreAt, AreStaged}
 use Rattle.pipe_flight.specs.States.{flying}
-use Rattle.pipe_flight.proofs.Agreements.{SameAt}
+use Rattle.pipe_flight.proofs.Agreements.{SameAt, Reaches}
 use Rattle.pipe_flight.proofs.PlaceLemmas.{all_made_same, handed_at, flow_same, flow_at, FromGroup, InGroup, staged_from, groups_commute, same_after, same_before, order_by_array}
 
 -- ---- one list of packets and another
@@ -51,9 +51,6 @@ enter_drain rules contents flight none packet =
     ∙ fold-append made contents (drained rules contents flight) (flow rules.now (drain rules contents flight) packet rules.count 0 none)
 
 -- ---- packets whose calls are at some places
-
-pub record Reaches {P : Type 0} (Place : ℕ → ℕ → Type 0) (rules : Versions P) (one : Flying P) : Type 0 where
-  pub at : (g : ℕ) (o : List ℕ) → one.group ≤ g → AreAt Place (stages_of rules one g one.packet o)
 
 pub rest_same : {P : Type 0} (Place : ℕ → ℕ → Type 0) (rules : Versions P) (one two : Contents) (flying : Flying P) → Reaches Place rules flying → SameAt Place one two → rest_of rules one flying ≡ rest_of rules two flying
 rest_same Place rules one two flying r same = flow_same Place (stages_of rules flying) one two flying.packet (rules.count - flying.group) flying.group flying.outs r.at same

@@ -10,15 +10,15 @@ use Rattle.reg_file.specs.declared.traits.Call.{Call}
 use Rattle.reg_file.specs.Registers.{Contents}
 use Rattle.reg_file.specs.Calls.{all_made}
 use Rattle.pipe_core.specs.Flow.{Stages, flow}
-use Rattle.pipe_flight.specs.Flights.{Flying, Versions, entering, stages_of, calls_next, moved_on, rest_of, drained, drain, kept_now, committed}
+use Rattle.pipe_flight.specs.Flights.{Flying, Versions, entering, calls_next, moved_on, rest_of, drained, drain, kept_now, committed}
 use Rattle.pipe_flight.specs.Orders.{if_left, is_old, is_present, Falls}
 use Rattle.pipe_flight.specs.Schedules.{Fill, filled, Moment, calls_of_group, passed_group, moment_after, Serial, AreAt, Avoids}
 use Rattle.pipe_flight.specs.Traces.{Item, trace_after, play, without_last, not_passed}
-use Rattle.pipe_flight.proofs.Agreements.{SameAt, Stands, Agrees, rev, IsOf, AvoidsAll, Follows, Traced}
+use Rattle.pipe_flight.proofs.Agreements.{SameAt, Stands, Agrees, rev, IsOf, AvoidsAll, Follows, Traced, Reaches, Unfilled}
 use Rattle.pipe_flight.specs.Schedules.Step.{Enter, Advance, Change}
 use Rattle.pipe_flight.specs.Traces.Item.{Made, Filled}
 use Rattle.pipe_flight.proofs.PlaceLemmas.{all_made_same, all_made_off, InGroup}
-use Rattle.pipe_flight.proofs.DrainLemmas.{BothStaged, stages_staged, Reaches, rest_same, drained_same}
+use Rattle.pipe_flight.proofs.DrainLemmas.{BothStaged, stages_staged, rest_same, drained_same}
 use Rattle.pipe_flight.proofs.CommitLemmas.{leave_drained, commit_drained}
 use Rattle.pipe_flight.proofs.OrderLemmas.{falls_here, falls_above, group_calls_of, group_passed}
 use Rattle.pipe_flight.proofs.TraceLemmas.{rev_append, rev_rev, all_rev, follows_moved, one_more}
@@ -103,14 +103,14 @@ follows_left {P} group_of rules contents (b ∷ bs) next (Made calls ∷ items) 
     ∙ ap (λ xs. drain rules contents (rev xs)) (sym (append-nil bs)) in
     (subst (λ c. IsOf group_of rules c b calls) same h.0, follows_left group_of rules contents bs next items le h.1)
 follows_left {P} group_of rules contents (b ∷ bs) next (Filled fill ∷ items) le h =
-    (record { avoid = drop_last (b ∷ bs) h.0.avoid }, follows_left group_of rules contents (b ∷ bs) next items le h.1)
+    (drop_last (b ∷ bs) h.0, follows_left group_of rules contents (b ∷ bs) next items le h.1)
   where
-    drop_last : (cs : List (Flying P)) → All (λ (x : Flying P). (g : ℕ) (o : List ℕ) → x.group ≤ g → AreAt (λ x y. fill.test x y ≡ false) (stages_of rules x g x.packet o)) (cs ++ next ∷ [])
-        → All (λ (x : Flying P). (g : ℕ) (o : List ℕ) → x.group ≤ g → AreAt (λ x y. fill.test x y ≡ false) (stages_of rules x g x.packet o)) (cs ++ [])
-    drop_last [] av = All-nil (λ (x : Flying P). (g : ℕ) (o : List ℕ) → x.group ≤ g → AreAt (λ x y. fill.test x y ≡ false) (stages_of rules x g x.packet o))
-    drop_last (c ∷ cs) av = All-cons (λ (x : Flying P). (g : ℕ) (o : List ℕ) → x.group ≤ g → AreAt (λ x y. fill.test x y ≡ false) (stages_of rules x g x.packet o)) c (cs ++ [])
-        (All-head (λ (x : Flying P). (g : ℕ) (o : List ℕ) → x.group ≤ g → AreAt (λ x y. fill.test x y ≡ false) (stages_of rules x g x.packet o)) c (cs ++ next ∷ []) av)
-        (drop_last cs (All-tail (λ (x : Flying P). (g : ℕ) (o : List ℕ) → x.group ≤ g → AreAt (λ x y. fill.test x y ≡ false) (stages_of rules x g x.packet o)) c (cs ++ next ∷ []) av))
+    drop_last : (cs : List (Flying P)) → All (Reaches (Unfilled fill) rules) (cs ++ next ∷ [])
+        → All (Reaches (Unfilled fill) rules) (cs ++ [])
+    drop_last [] av = All-nil (Reaches (Unfilled fill) rules)
+    drop_last (c ∷ cs) av = All-cons (Reaches (Unfilled fill) rules) c (cs ++ [])
+        (All-head (Reaches (Unfilled fill) rules) c (cs ++ next ∷ []) av)
+        (drop_last cs (All-tail (Reaches (Unfilled fill) rules) c (cs ++ next ∷ []) av))
 
 -- what follows after the packet moved, whether it left or not
 left_follows : {P : Type 0} (group_of : ℕ → ℕ) (rules : Versions P) (contents : Contents) (bs : List (Flying P)) (next : Flying P) (fs : List (Flying P)) (trace : List Item) → (next.group ≡ rules.count → fs ≡ []) → Follows group_of rules contents (bs ++ next ∷ fs) trace → Follows group_of rules contents (bs ++ (if_left rules.count next ++ fs)) trace
@@ -230,11 +230,10 @@ trace_advance {P} group_of start none m s trace group a stands t =
 -- ---- a change with no old packet in flight
 
 avoids_kept : {P : Type 0} (rules : Versions P) (next : Stages P) (fill : Fill) (fs : List (Flying P)) → All (λ (f : Flying P). f.kept ≡ false) fs → AvoidsAll rules fill fs → AvoidsAll (committed rules next) fill (map kept_now fs)
-avoids_kept {P} rules next fill fs new h = record {
-  avoid =
-      All-map (λ (x : Flying P). (g : ℕ) (o : List ℕ) → x.group ≤ g → AreAt (λ x y. fill.test x y ≡ false) (stages_of (committed rules next) x g x.packet o)) kept_now fs
-      (λ k d lt g o le. subst (λ b. AreAt (λ x y. fill.test x y ≡ false) (cond b rules.old rules.now g (get_or fs k d).packet o)) (new k d lt) (h.avoid k d lt g o le));
-}
+avoids_kept rules next fill fs new h =
+    All-map (Reaches (Unfilled fill) (committed rules next)) kept_now fs (λ k d lt. record {
+      at = λ g o le. subst (λ b. AreAt (Unfilled fill) (cond b rules.old rules.now g (get_or fs k d).packet o)) (new k d lt) ((h k d lt).at g o le);
+    })
 
 follows_kept : {P : Type 0} (group_of : ℕ → ℕ) (rules : Versions P) (next : Stages P) (fill : Fill) (contents : Contents) (fs : List (Flying P)) (trace : List Item) → All (λ (f : Flying P). f.kept ≡ false) fs → Avoids rules.now fill
     → Follows group_of rules contents fs trace → Follows group_of (committed rules next) (filled fill contents) (map kept_now fs) trace
@@ -269,11 +268,8 @@ follows_kept {P} group_of rules next fill contents (f ∷ fs) (Filled other ∷ 
     (avoids_kept rules next other (f ∷ fs) new h.0, follows_kept group_of rules next fill contents (f ∷ fs) items new avoids h.1)
 
 all_kept : {P : Type 0} (rules : Versions P) (next : Stages P) (fill : Fill) (fs : List (Flying P)) → Avoids rules.now fill → AvoidsAll (committed rules next) fill (map kept_now fs)
-all_kept {P} rules next fill fs avoids = record {
-  avoid =
-      All-map (λ (x : Flying P). (g : ℕ) (o : List ℕ) → x.group ≤ g → AreAt (λ x y. fill.test x y ≡ false) (stages_of (committed rules next) x g x.packet o)) kept_now fs
-      (λ k d lt g o le. avoids g (get_or fs k d).packet o);
-}
+all_kept rules next fill fs avoids =
+    All-map (Reaches (Unfilled fill) (committed rules next)) kept_now fs (λ k d lt. record { at = λ g o le. avoids g (get_or fs k d).packet o })
 
 follows_filled : {P : Type 0} (group_of : ℕ → ℕ) (rules : Versions P) (contents : Contents) (fs : List (Flying P)) (fill : Fill) (trace : List Item) → AvoidsAll rules fill fs → Follows group_of rules contents fs trace → Follows group_of rules contents fs (Filled fill ∷ trace)
 follows_filled group_of rules contents [] fill trace av h = tt

@@ -12,12 +12,12 @@ use Rattle.pipe_core.specs.Flow.{Stages, flow}
 use Rattle.pipe_flight.specs.Flights.{Flying, Versions, stages_of, calls_next, drained, drain}
 use Rattle.pipe_flight.specs.Orders.{Falls}
 use Rattle.pipe_flight.specs.Schedules.{Fill, filled, Step, Moment, moment_after, Serial, serial_after, AreAt, AreStaged, Avoids, Meets, MeetAll, first_moment, first_serial, ran, ran_serial, KeepsSerialOrder}
-use Rattle.pipe_flight.specs.Traces.{Item, trace_after, traced, IsFlightStep, KeepsGroupOrder, calls_from_last, is_in, KeepsPacketCalls}
-use Rattle.pipe_flight.proofs.Agreements.{Agrees, rev, IsOf, Follows, Traced}
-use Rattle.pipe_flight.specs.Schedules.Step.{Enter, Advance, Change, Show, Rearrange}
+use Rattle.pipe_flight.specs.Traces.{Item, trace_after, traced, KeepsGroupOrder, calls_from_last, is_in, KeepsPacketCalls}
+use Rattle.pipe_flight.proofs.Agreements.{Agrees, rev, IsOf, Follows, Traced, Reaches}
+use Rattle.pipe_flight.specs.Schedules.Step.{Enter, Advance, Change, Show}
 use Rattle.pipe_flight.proofs.PlaceLemmas.{flow_at, FromGroup, staged_from}
 use Rattle.pipe_flight.specs.Drains.{DrainsEntered, DrainsFilled, with_now}
-use Rattle.pipe_flight.proofs.DrainLemmas.{BothStaged, stages_staged, Reaches, drained_same, drained_at}
+use Rattle.pipe_flight.proofs.DrainLemmas.{BothStaged, stages_staged, drained_same, drained_at}
 use Rattle.pipe_flight.proofs.DrainLemmas.{enter_drain as entered_drain}
 use Rattle.pipe_flight.proofs.CommitLemmas.{kept_drained}
 use Rattle.pipe_flight.proofs.OrderLemmas.{somebody, falls_here}
@@ -52,21 +52,20 @@ serial_order group_of run is =
       contents_at_end = λ e. (equal_at_end group_of m s a e).0;
     }
 
-trace_step : {P : Type 0} (group_of : ℕ → ℕ) (start : Contents) (none : List ℕ) (m : Moment P) (s : Serial P) (trace : List Item) (step : Step P) → Agrees group_of m s → Meets group_of m step → IsFlightStep step → Traced group_of start m trace → Traced group_of start (moment_after none m step) (trace_after m.rules.count none s trace step)
-trace_step group_of start none m s trace (Enter packet) a meets fine t = trace_enter group_of start none m s trace packet a t
-trace_step group_of start none m s trace (Advance group) a meets fine t = trace_advance group_of start none m s trace group a (somebody group m.flight meets.0) t
-trace_step group_of start none m s trace (Change next fill) a meets fine t = trace_changed group_of start none m s trace next fill a meets.1 t
-trace_step group_of start none m s trace Show a meets fine t = trace_show group_of start none m s trace a t
-trace_step group_of start none m s trace (Rearrange next effect) a meets fine t = absurd fine
+trace_step : {P : Type 0} (group_of : ℕ → ℕ) (start : Contents) (none : List ℕ) (m : Moment P) (s : Serial P) (trace : List Item) (step : Step P) → Agrees group_of m s → Meets group_of m step → Traced group_of start m trace → Traced group_of start (moment_after none m step) (trace_after m.rules.count none s trace step)
+trace_step group_of start none m s trace (Enter packet) a meets t = trace_enter group_of start none m s trace packet a t
+trace_step group_of start none m s trace (Advance group) a meets t = trace_advance group_of start none m s trace group a (somebody group m.flight meets.0) t
+trace_step group_of start none m s trace (Change next fill) a meets t = trace_changed group_of start none m s trace next fill a meets.1 t
+trace_step group_of start none m s trace Show a meets t = trace_show group_of start none m s trace a t
 
-trace_all : {P : Type 0} (group_of : ℕ → ℕ) (start : Contents) (none : List ℕ) (count : ℕ) (schedule : List (Step P)) (m : Moment P) (s : Serial P) (trace : List Item) → m.rules.count ≡ count → Agrees group_of m s → Traced group_of start m trace → MeetAll group_of none m schedule → All IsFlightStep schedule
+trace_all : {P : Type 0} (group_of : ℕ → ℕ) (start : Contents) (none : List ℕ) (count : ℕ) (schedule : List (Step P)) (m : Moment P) (s : Serial P) (trace : List Item) → m.rules.count ≡ count → Agrees group_of m s → Traced group_of start m trace → MeetAll group_of none m schedule
     → Traced group_of start (ran none m schedule) (traced count none s trace schedule)
-trace_all group_of start none count [] m s trace c a t meet fine = t
-trace_all group_of start none count (step ∷ steps) m s trace c a t meet fine =
+trace_all group_of start none count [] m s trace c a t meet = t
+trace_all group_of start none count (step ∷ steps) m s trace c a t meet =
     trace_all group_of start none count steps (moment_after none m step) (serial_after count none s step) (trace_after count none s trace step) (count_stays none m step ∙ c)
     (subst (λ n. Agrees group_of (moment_after none m step) (serial_after n none s step)) c (agree_step group_of none m s step a meet.0))
-    (subst (λ n. Traced group_of start (moment_after none m step) (trace_after n none s trace step)) c (trace_step group_of start none m s trace step a meet.0 (All-head IsFlightStep step steps fine) t))
-    meet.1 (All-tail IsFlightStep step steps fine)
+    (subst (λ n. Traced group_of start (moment_after none m step) (trace_after n none s trace step)) c (trace_step group_of start none m s trace step a meet.0 t))
+    meet.1
 
 count_all : {P : Type 0} (none : List ℕ) (schedule : List (Step P)) (m : Moment P) → (ran none m schedule).rules.count ≡ m.rules.count
 count_all none [] m = refl
@@ -74,18 +73,18 @@ count_all none (step ∷ steps) m = count_all none steps (moment_after none m st
 
 -- the trace of a whole schedule
 traced_end : {P : Type 0} (group_of : ℕ → ℕ) (none : List ℕ) (count : ℕ) (now : Stages P) (contents : Contents) (schedule : List (Step P))
-    → 0 < count → AreStaged group_of now → MeetAll group_of none (first_moment count now contents) schedule → All IsFlightStep schedule
+    → 0 < count → AreStaged group_of now → MeetAll group_of none (first_moment count now contents) schedule
     → Traced group_of contents (ran none (first_moment count now contents) schedule) (traced count none (first_serial now contents) [] schedule)
-traced_end group_of none count now contents schedule some staged meet fine =
+traced_end group_of none count now contents schedule some staged meet =
     trace_all group_of contents none count schedule (first_moment count now contents) (first_serial now contents) [] refl (agree_first group_of count now contents some staged)
-    (record { backward = []; order = refl; follows = tt; groups = λ a i lt. refl }) meet fine
+    (record { backward = []; order = refl; follows = tt; groups = λ a i lt. refl }) meet
 
 pub group_order : {P : Type 0} → KeepsGroupOrder P
-group_order group_of run is fine =
+group_order group_of run is =
     let none = run.none in let count = run.count in let now = run.now in let contents = run.contents in let schedule = run.steps in
     let some = is.some in let staged = is.staged in let meet = is.meets in
     let m = first_moment count now contents in
-    let t = traced_end group_of none count now contents schedule some staged meet fine in
+    let t = traced_end group_of none count now contents schedule some staged meet in
     λ a i lt. t.groups a i (subst (λ n. group_of a < n) (sym (count_all none schedule m)) lt)
 
 -- ---- the calls of an advance are those of the packet on the group
@@ -135,13 +134,13 @@ backward_is flight backward front one back order split =
     sym (rev_rev backward) ∙ ap rev (sym order ∙ split) ∙ rev_append front (one ∷ back) ∙ append_assoc (rev back) (one ∷ []) (rev front)
 
 pub packet_calls : {P : Type 0} → KeepsPacketCalls P
-packet_calls {P} group_of run front one back is fine split =
+packet_calls {P} group_of run front one back is split =
     let none = run.none in let count = run.count in let now = run.now in let contents = run.contents in let schedule = run.steps in
     let some = is.some in let staged = is.staged in let meet = is.meets in
     let m = ran none (first_moment count now contents) schedule in
     let s = ran_serial count none (first_serial now contents) schedule in
     let trace = traced count none (first_serial now contents) [] schedule in
-    let t = traced_end group_of none count now contents schedule some staged meet fine in
+    let t = traced_end group_of none count now contents schedule some staged meet in
     let a = agree_all group_of none count schedule (first_moment count now contents) (first_serial now contents) refl (agree_first group_of count now contents some staged) meet in
     let lt = falls_here m.rules.count front one back (subst (Falls m.rules.count) split a.flight.falls) in
     item_calls group_of m.rules m.contents (rev back) one (rev front) trace (record { now = a.now_staged; old = a.old_staged }) lt

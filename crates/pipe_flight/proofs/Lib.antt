@@ -1,4 +1,5 @@
 pub mod Agreements
+pub mod PipeRunLemmas
 pub mod PlaceLemmas
 pub mod DrainLemmas
 pub mod CommitLemmas

@@ -90,13 +90,6 @@ pub record StillTo (wanted left : Contents → List Call) (contents new_contents
   pub joined : Grows list calls new_list
   pub told : Told (λ old now. (now ≡ all_made old calls) × (calls ++ left now ≡ wanted old)) contents new_contents
 
-pub still_first : (wanted : Contents → List Call) (contents : Option Contents) (list : Option (List Call)) → StillTo wanted wanted contents contents list list
-still_first wanted contents list = record {
-  calls = [];
-  joined = grows_none list list (stays_same list);
-  told = told_weaker contents contents (λ x y p. (p, ap wanted p)) (stays_same contents);
-}
-
 pub still_then : (wanted left one next : Contents → List Call) (contents mid_contents new_contents : Option Contents) (list mid_list new_list : Option (List Call))
     → ((c : Contents) → left c ≡ one c ++ next (all_made c (one c)))
     → StillTo wanted left contents mid_contents list mid_list → MakesOver one mid_contents new_contents mid_list new_list → StillTo wanted next contents new_contents list new_list

@@ -63,6 +63,26 @@ old_head (one ∷ others) h = by one.kept refl h
     }
     by false e g = absurd (cc)
 
+-- where an old packet is first, there is one
+pub old_among : (flight : List (Flying Packet)) → list_any is_old (take 1 flight) ≡ true → filter is_old flight ≡ [] → ⊥
+old_among [] h none = absurd (cc)
+old_among (one ∷ others) h none = by one.kept refl h
+  where
+    by : (b : Bool) → one.kept ≡ b → (b || false) ≡ true → ⊥
+    by true e g =
+        let some : filter is_old (one ∷ others) ≡ one ∷ filter is_old others = ap (λ b. cond b (one ∷ filter is_old others) (filter is_old others)) e in
+        let less = ap (λ (fs : List (Flying Packet)). length fs) (sym some ∙ none) in
+        omega (arith, less)
+    by false e g = absurd (cc)
+
+-- where some packet is kept, the flight has one
+pub somebody_waits : (waiting : List Waiting) (before : Rules) (state : FlightState) (count : ℕ) → state_of waiting before ≡ state → count ≡ length waiting → (count == 0) ≡ false → state.flight ≡ [] → ⊥
+somebody_waits waiting before state count view is some none =
+    let long = ap (λ (a : FlightState). length a.flight) view in
+    let short = ap (λ (fs : List (Flying Packet)). length fs) none in
+    let e : count ≡ 0 = omega (arith, is, long, short, length-map waiting flying) in
+    false≢true (sym some ∙ eq-eqb count 0 e)
+
 none_old : (fs : List (Flying Packet)) → All (λ x. x ≡ false) (map is_old fs) → NoOld fs
 none_old [] a = record { olds = refl; presents = refl }
 none_old (f ∷ fs) a =

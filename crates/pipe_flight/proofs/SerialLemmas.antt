@@ -14,10 +14,10 @@ use Rattle.pipe_core.specs.Flow.{Stages, flow}
 use Rattle.pipe_flight.specs.Flights.{Flying, Versions, entering, calls_next, moved_on, drained, drain, kept_now, committed}
 use Rattle.pipe_flight.specs.Orders.{NobodyAt, if_left, is_old, is_present, Falls, OldFirst, IsFlight}
 use Rattle.pipe_flight.specs.Schedules.{Fill, filled, Step, Moment, calls_of_group, passed_group, moment_after, Serial, serial_after, AreAt, AreStaged, Avoids, Meets, MeetAll, ran, ran_serial, IsFront}
-use Rattle.pipe_flight.proofs.Agreements.{Stands, Agrees}
-use Rattle.pipe_flight.specs.Schedules.Step.{Enter, Advance, Change, Show, Rearrange}
+use Rattle.pipe_flight.proofs.Agreements.{Stands, Agrees, Reaches}
+use Rattle.pipe_flight.specs.Schedules.Step.{Enter, Advance, Change, Show}
 use Rattle.pipe_flight.proofs.PlaceLemmas.{all_made_same, all_made_off}
-use Rattle.pipe_flight.proofs.DrainLemmas.{drained_append, drain_append, enter_drained, enter_drain, advance_drain, advance_calls, BothStaged, Reaches, drained_same, drained_at}
+use Rattle.pipe_flight.proofs.DrainLemmas.{drained_append, drain_append, enter_drained, enter_drain, advance_drain, advance_calls, BothStaged, drained_same, drained_at}
 use Rattle.pipe_flight.proofs.CommitLemmas.{commit_drained}
 use Rattle.pipe_flight.proofs.OrderLemmas.{somebody, falls_here, falls_above, falls_enter, falls_move, falls_leave, falls_back, falls_kept, old_push, old_leave, old_kept, old_split, all_present, group_calls_of, group_passed, left_drained}
 
@@ -184,22 +184,6 @@ equal_at_end group_of m s a e =
       λ array. ap (filter (is_on array)) (sym (append-nil m.calls) ∙ ap (λ calls. m.calls ++ calls) (sym none)) ∙ a.calls array,
     )
 
--- ---- a change of registers at will, with nobody in flight
-
-pub agree_rearrange : {P : Type 0} (group_of : ℕ → ℕ) (none : List ℕ) (m : Moment P) (s : Serial P) (next : Stages P) (effect : Contents → Contents) → Agrees group_of m s → m.flight ≡ [] → AreStaged group_of next → Agrees group_of (moment_after none m (Rearrange next effect)) (serial_after m.rules.count none s (Rearrange next effect))
-agree_rearrange group_of none m s next effect a nobody staged =
-    let end = equal_at_end group_of m s a nobody in
-    let left : drained (committed m.rules next) (effect m.contents) m.flight ≡ [] = ap (drained (committed m.rules next) (effect m.contents)) nobody in
-    record {
-      some = a.some;
-      now_staged = staged;
-      old_staged = a.now_staged;
-      flight = a.flight;
-      now = refl;
-      contents = ap (all_made (effect m.contents)) left ∙ ap effect end.0;
-      calls = λ array. ap (λ calls. filter (is_on array) (m.calls ++ calls)) left ∙ ap (filter (is_on array)) (append-nil m.calls) ∙ end.1 array;
-    }
-
 -- ---- all steps
 
 pub agree_step : {P : Type 0} (group_of : ℕ → ℕ) (none : List ℕ) (m : Moment P) (s : Serial P) (step : Step P) → Agrees group_of m s → Meets group_of m step → Agrees group_of (moment_after none m step) (serial_after m.rules.count none s step)
@@ -207,14 +191,12 @@ agree_step group_of none m s (Enter packet) a meets = agree_enter group_of none 
 agree_step group_of none m s (Advance group) a meets = agree_advance group_of none m s group a (somebody group m.flight meets.0) meets.1
 agree_step group_of none m s (Change next fill) a meets = agree_change group_of none m s next fill a meets.0 meets.1
 agree_step group_of none m s Show a meets = agree_show group_of none m s a
-agree_step group_of none m s (Rearrange next effect) a meets = agree_rearrange group_of none m s next effect a meets.0 meets.1
 
 pub count_stays : {P : Type 0} (none : List ℕ) (m : Moment P) (step : Step P) → (moment_after none m step).rules.count ≡ m.rules.count
 count_stays none m (Enter packet) = refl
 count_stays none m (Advance group) = refl
 count_stays none m (Change next fill) = refl
 count_stays none m Show = refl
-count_stays none m (Rearrange next effect) = refl
 
 pub agree_all : {P : Type 0} (group_of : ℕ → ℕ) (none : List ℕ) (count : ℕ) (schedule : List (Step P)) (m : Moment P) (s : Serial P) → m.rules.count ≡ count → Agrees group_of m s → MeetAll group_of none m schedule → Agrees group_of (ran none m schedule) (ran_serial count none s schedule)
 agree_all group_of none count [] m s c a meet = a

@@ -1,8 +1,8 @@
 -- The order of one group.
-use Rattle.std.proofs.Common.{◌≡◌, ℕ, suc, ◌+◌, ◌-◌, ◌<◌, ◌≤◌, false, cond, List, [], ◌∷◌, ◌++◌, length, refl, ap, sym, ◌∙◌, subst, arith, append_assoc}
+use Rattle.std.proofs.Common.{◌≡◌, ℕ, suc, ◌+◌, ◌-◌, ◌<◌, ◌≤◌, cond, List, [], ◌∷◌, ◌++◌, length, refl, ap, sym, ◌∙◌, subst, arith, append_assoc}
 use Rattle.std.specs.List.{All}
 use Rattle.std.proofs.lemmas.List.{append-nil}
-use Rattle.std.proofs.lemmas.List.Elements.{All-nil, All-cons, All-head, All-tail, All-append, All-weaker}
+use Rattle.std.proofs.lemmas.List.Elements.{All-nil, All-cons, All-head, All-tail, All-append, All-weaker, All-contains, Contains-append_right}
 use Rattle.std.proofs.lemmas.List.Sums.{fold-append}
 use Rattle.reg_file.specs.declared.traits.Call.{Call}
 use Rattle.reg_file.specs.Registers.{Contents}
@@ -11,10 +11,10 @@ use Rattle.pipe_core.specs.Flow.{flow}
 use Rattle.pipe_flight.specs.Flights.{Flying, Versions, stages_of, calls_next, moved_on, rest_of, drained, drain}
 use Rattle.pipe_flight.specs.Schedules.{Fill, AreAt}
 use Rattle.pipe_flight.specs.Traces.{Item, play, without_last}
-use Rattle.pipe_flight.proofs.Agreements.{SameAt, rev, IsOf, AvoidsAll, Follows}
+use Rattle.pipe_flight.proofs.Agreements.{SameAt, rev, IsOf, AvoidsAll, Follows, Reaches, Unfilled}
 use Rattle.pipe_flight.specs.Traces.Item.{Made, Filled}
 use Rattle.pipe_flight.proofs.PlaceLemmas.{all_made_same, all_made_off, flow_at, FromGroup, InGroup, staged_from, same_after}
-use Rattle.pipe_flight.proofs.DrainLemmas.{advances, advance_drain, BothStaged, stages_staged, reaches_from, Reaches, rest_same, drained_same}
+use Rattle.pipe_flight.proofs.DrainLemmas.{advances, advance_drain, BothStaged, stages_staged, reaches_from, rest_same, drained_same}
 use Rattle.pipe_flight.proofs.SerialLemmas.{fill_past}
 
 -- ---- lists the other way round
@@ -55,12 +55,12 @@ front_follows {P} group_of rules contents here group (f ∷ fs) (Made calls ∷ 
 front_follows group_of rules contents here group (f ∷ fs) (Filled fill ∷ items) both at above h = (h.0, front_follows group_of rules contents here group (f ∷ fs) items both at above h.1)
 
 avoids_moved : {P : Type 0} (rules : Versions P) (fill : Fill) (contents : Contents) (bs : List (Flying P)) (one : Flying P) (fs : List (Flying P)) → AvoidsAll rules fill (bs ++ one ∷ fs) → AvoidsAll rules fill (bs ++ moved_on rules contents one ∷ fs)
-avoids_moved {P} rules fill contents [] one fs h =
-    let Q : Flying P → Type 0 = λ x. (g : ℕ) (o : List ℕ) → x.group ≤ g → AreAt (λ a i. fill.test a i ≡ false) (stages_of rules x g x.packet o) in
-    record { avoid = All-cons Q (moved_on rules contents one) fs (λ g o le. All-head Q one fs h.avoid g o (omega arith)) (All-tail Q one fs h.avoid) }
-avoids_moved {P} rules fill contents (b ∷ bs) one fs h =
-    let Q : Flying P → Type 0 = λ x. (g : ℕ) (o : List ℕ) → x.group ≤ g → AreAt (λ a i. fill.test a i ≡ false) (stages_of rules x g x.packet o) in
-    record { avoid = All-cons Q b (bs ++ moved_on rules contents one ∷ fs) (All-head Q b (bs ++ one ∷ fs) h.avoid) (avoids_moved rules fill contents bs one fs (record { avoid = All-tail Q b (bs ++ one ∷ fs) h.avoid })).avoid }
+avoids_moved rules fill contents [] one fs h =
+    let Q = Reaches (Unfilled fill) rules in
+    All-cons Q (moved_on rules contents one) fs (record { at = λ g o le. (All-head Q one fs h).at g o (omega arith) }) (All-tail Q one fs h)
+avoids_moved rules fill contents (b ∷ bs) one fs h =
+    let Q = Reaches (Unfilled fill) rules in
+    All-cons Q b (bs ++ moved_on rules contents one ∷ fs) (All-head Q b (bs ++ one ∷ fs) h) (avoids_moved rules fill contents bs one fs (All-tail Q b (bs ++ one ∷ fs) h))
 
 split_rev : {P : Type 0} (bs : List (Flying P)) (one : Flying P) (fs : List (Flying P)) → rev (bs ++ one ∷ fs) ≡ rev fs ++ one ∷ rev bs
 split_rev bs one fs = rev_append bs (one ∷ fs) ∙ append_assoc (rev fs) (one ∷ []) (rev bs)
@@ -126,16 +126,10 @@ one_more group_of rules contents start (b ∷ bs) one fs [] a i both lt e h = ab
 one_more group_of rules contents start [] one fs (Made calls ∷ items) a i both lt e h = own_calls group_of rules (drain rules contents (rev fs)) (play start items) one calls a i both lt h.0 e
 one_more group_of rules contents start (b ∷ bs) one fs (Made calls ∷ items) a i both lt e h = one_more group_of rules contents start bs one fs items a i both lt e h.1
 one_more {P} group_of rules contents start [] one fs (Filled fill ∷ items) a i both lt e h =
-    let Q : Flying P → Type 0 = λ x. (g : ℕ) (o : List ℕ) → x.group ≤ g → AreAt (λ x y. fill.test x y ≡ false) (stages_of rules x g x.packet o) in
+    let Q : Flying P → Type 0 = Reaches (Unfilled fill) rules in
     ap (λ v. cond (fill.test a i) (fill.value a i) v) (one_more group_of rules contents start [] one fs items a i both lt e h.1)
-    ∙ sym (ap (λ (c : Contents). c a i) (fill_past fill (play start (without_last 1 items)) (calls_next rules one) (All-head Q one fs h.0.avoid one.group one.outs (omega arith))))
+    ∙ sym (ap (λ (c : Contents). c a i) (fill_past fill (play start (without_last 1 items)) (calls_next rules one) ((All-head Q one fs h.0).at one.group one.outs (omega arith))))
 one_more {P} group_of rules contents start (b ∷ bs) one fs (Filled fill ∷ items) a i both lt e h =
-    let Q : Flying P → Type 0 = λ x. (g : ℕ) (o : List ℕ) → x.group ≤ g → AreAt (λ x y. fill.test x y ≡ false) (stages_of rules x g x.packet o) in
+    let Q : Flying P → Type 0 = Reaches (Unfilled fill) rules in
     ap (λ v. cond (fill.test a i) (fill.value a i) v) (one_more group_of rules contents start (b ∷ bs) one fs items a i both lt e h.1)
-    ∙ sym (ap (λ (c : Contents). c a i) (fill_past fill (play start (without_last (suc (suc (length bs))) items)) (calls_next rules one) (avoid_at bs h.0.avoid one.group one.outs (omega arith))))
-  where
-    avoid_at : (cs : List (Flying P)) → All (λ (x : Flying P). (g : ℕ) (o : List ℕ) → x.group ≤ g → AreAt (λ x y. fill.test x y ≡ false) (stages_of rules x g x.packet o)) (b ∷ (cs ++ one ∷ fs))
-        → (g : ℕ) (o : List ℕ) → one.group ≤ g → AreAt (λ x y. fill.test x y ≡ false) (stages_of rules one g one.packet o)
-    avoid_at [] av = All-head (λ (x : Flying P). (g : ℕ) (o : List ℕ) → x.group ≤ g → AreAt (λ x y. fill.test x y ≡ false) (stages_of rules x g x.packet o)) one fs (All-tail (λ (x : Flying P). (g : ℕ) (o : List ℕ) → x.group ≤ g → AreAt (λ x y. fill.test x y ≡ false) (stages_of rules x g x.packet o)) b (one ∷ fs) av)
-    avoid_at (c ∷ cs) av = avoid_at cs (All-cons (λ (x : Flying P). (g : ℕ) (o : List ℕ) → x.group ≤ g → AreAt (λ x y. fill.test x y ≡ false) (stages_of rules x g x.packet o)) b (cs ++ one ∷ fs) (All-head (λ (x : Flying P). (g : ℕ) (o : List ℕ) → x.group ≤ g → AreAt (λ x y. fill.test x y ≡ false) (stages_of rules x g x.packet o)) b (c ∷ (cs ++ one ∷ fs)) av)
-        (All-tail (λ (x : Flying P). (g : ℕ) (o : List ℕ) → x.group ≤ g → AreAt (λ x y. fill.test x y ≡ false) (stages_of rules x g x.packet o)) c (cs ++ one ∷ fs) (All-tail (λ (x : Flying P). (g : ℕ) (o : List ℕ) → x.group ≤ g → AreAt (λ x y. fill.test x y ≡ false) (stages_of rules x g x.packet o)) b (c ∷ (cs ++ one ∷ fs)) av)))
+    ∙ sym (ap (λ (c : Contents). c a i) (fill_past fill (play start (without_last (suc (suc (length bs))) items)) (calls_next rules one) ((All-contains Q (b ∷ (bs ++ one ∷ fs)) one h.0 (Contains-append_right (b ∷ bs) (one ∷ fs) one (0, omega arith, refl))).at one.group one.outs (omega arith))))

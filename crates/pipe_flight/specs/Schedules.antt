@@ -18,13 +18,12 @@ abbrev pub filled : Fill → Contents → Contents
 filled fill contents a i = if fill.test a i then fill.value a i else contents a i
 
 -- a packet enters, or the one before a group passes it; `Change` is a commit and then the change, with the rules that
--- come and what it fills; `Show` passes all to the end; `Rearrange` changes the registers at will
+-- come and what it fills; `Show` passes all to the end
 pub data Step (P : Type 0) : Type 0 where
   Enter : (packet : P) → Step P
   Advance : (group : ℕ) → Step P
   Change : (next : Stages P) (fill : Fill) → Step P
   Show : Step P
-  Rearrange : (next : Stages P) (effect : Contents → Contents) → Step P
 
 -- the packets in flight in order of entry, the rules, the registers and the calls made so far
 pub record Moment (P : Type 0) : Type 0 where
@@ -80,12 +79,6 @@ moment_after none m Show = record {
   contents = drain m.rules m.contents m.flight;
   calls = m.calls ++ drained m.rules m.contents m.flight;
 }
-moment_after none m (Rearrange next effect) = record {
-  flight = m.flight;
-  rules = committed m.rules next;
-  contents = effect m.contents;
-  calls = m.calls;
-}
 
 -- the serial run so far: the rules, the registers and the calls made
 pub record Serial (P : Type 0) : Type 0 where
@@ -102,7 +95,6 @@ serial_after count none s (Enter packet) = record {
 serial_after count none s (Advance group) = s
 serial_after count none s (Change next fill) = record { now = next; contents = filled fill s.contents; calls = s.calls }
 serial_after count none s Show = s
-serial_after count none s (Rearrange next effect) = record { now = next; contents = effect s.contents; calls = s.calls }
 
 -- ---- the conditions of steps
 
@@ -123,7 +115,6 @@ Meets group_of m (Enter packet) = NobodyAt 0 m.flight
 Meets group_of m (Advance group) = (NobodyAt group m.flight → ⊥) × NobodyAt (group + 1) m.flight
 Meets group_of m (Change next fill) = AreStaged group_of next × Avoids m.rules.now fill
 Meets group_of m Show = Unit {0}
-Meets group_of m (Rearrange next effect) = (m.flight ≡ []) × AreStaged group_of next
 
 -- each step meets its condition when its turn comes
 abbrev pub MeetAll : {P : Type 0} → (ℕ → ℕ) → List ℕ → Moment P → List (Step P) → Type 0

@@ -1,13 +1,12 @@
 -- What the serial run did to the registers of a group, and which of it the packets in flight have done.
 use Rattle.std.specs.Prelude.{◌≡◌, ℕ, zero, suc, ◌+◌, ◌<◌, ◌==◌, Bool, if◌then◌else◌, nat_le, List, [], ◌∷◌, ◌++◌, filter, length}
-use Rattle.std.specs.List.{All}
 use Rattle.reg_file.specs.declared.traits.Call.{Call}
 use Rattle.reg_file.specs.Registers.{Contents}
 use Rattle.reg_file.specs.Calls.{all_made}
 use Rattle.pipe_core.specs.Flow.{flow}
 use Rattle.pipe_flight.specs.Flights.{Flying, calls_next}
 use Rattle.pipe_flight.specs.Schedules.{Fill, filled, Step, Serial, serial_after, first_serial, Run, IsRun, ended}
-use Rattle.pipe_flight.specs.Schedules.Step.{Enter, Advance, Change, Show, Rearrange}
+use Rattle.pipe_flight.specs.Schedules.Step.{Enter, Advance, Change, Show}
 
 -- the calls of one packet, or a fill
 pub data Item : Type 0 where
@@ -20,7 +19,6 @@ trace_after count none s trace (Enter packet) = Made (flow s.now s.contents pack
 trace_after count none s trace (Advance group) = trace
 trace_after count none s trace (Change next fill) = Filled fill ∷ trace
 trace_after count none s trace Show = trace
-trace_after count none s trace (Rearrange next effect) = trace
 
 abbrev pub traced : {P : Type 0} → ℕ → List ℕ → Serial P → List Item → List (Step P) → List Item
 traced count none s trace [] = trace
@@ -54,16 +52,8 @@ abbrev pub GroupsAgree : {P : Type 0} → (ℕ → ℕ) → ℕ → Contents →
 GroupsAgree group_of count start trace contents flight =
     (a i : ℕ) → group_of a < count → contents a i ≡ play start (without_last (not_passed (group_of a) flight) trace) a i
 
--- all steps but one that changes registers at will
-abbrev pub IsFlightStep : {P : Type 0} → Step P → Type 0
-IsFlightStep (Enter packet) = Unit {0}
-IsFlightStep (Advance group) = Unit {0}
-IsFlightStep (Change next fill) = Unit {0}
-IsFlightStep Show = Unit {0}
-IsFlightStep (Rearrange next effect) = ⊥
-
 abbrev pub KeepsGroupOrder : Type 0 → Type 0
-KeepsGroupOrder P = (group_of : ℕ → ℕ) (run : Run P) → IsRun group_of run → All IsFlightStep run.steps
+KeepsGroupOrder P = (group_of : ℕ → ℕ) (run : Run P) → IsRun group_of run
     → GroupsAgree group_of run.count run.contents (trace_of run) (ended run).contents (ended run).flight
 
 -- ---- which calls an advance makes
@@ -81,5 +71,5 @@ is_in group_of group call = group_of call.array == group
 -- the calls that a packet makes in its group are those of its calls in the serial run that are on the group's arrays
 abbrev pub KeepsPacketCalls : Type 0 → Type 0
 KeepsPacketCalls P = (group_of : ℕ → ℕ) (run : Run P) (front : List (Flying P)) (one : Flying P) (back : List (Flying P))
-    → IsRun group_of run → All IsFlightStep run.steps → (ended run).flight ≡ front ++ one ∷ back
+    → IsRun group_of run → (ended run).flight ≡ front ++ one ∷ back
     → calls_next (ended run).rules one ≡ filter (is_in group_of one.group) (calls_from_last (length back) (trace_of run))

@@ -1,7 +1,7 @@
 //! Packets that stand before different groups of a pipe, while its rules change.
 ghost use Rattle.std.specs.Prelude.{◌≡◌, ◌<◌, ◌+◌, ◌∷◌, ◌++◌, ◌↔◌, [], length, take, drop, map, filter, false, IfOk, IsTrue, if◌then◌else◌};
 ghost use Rattle.std.specs.List.{list_any};
-ghost use Rattle.outside.specs.Told.{Told};
+ghost use Rattle.outside.specs.Told.{Told, Stays};
 ghost use Rattle.reg_file.specs.Calls.{MakesOver};
 ghost use Rattle.pipe_core.specs.Rules.{SameShape, IsShaped};
 ghost use Rattle.pipe_core.specs.Groups.{no_carries};
@@ -118,6 +118,8 @@ impl Flight {
         ensures dims { R.dims regs.new ≡ R.dims regs.old }
         ensures before { self.new.before ≡ now.now }
         ensures flight { self.new.flight ≡ map kept_now (filter is_present self.old.flight) }
+        ensures order { IsFlight (group_count self.old.before) self.old.flight }
+        ensures idle { filter is_old self.old.flight ≡ [] → Stays (R.calls regs.old) (R.calls regs.new) }
         ensures drain { Told (λ contents now_contents. drain_of self.new now.now now_contents ≡ drain_of self.old now.now contents)
             (R.contents regs.old) (R.contents regs.new) }
         ensures makes { MakesOver (λ contents. drained (versions now.now self.old.before) contents (filter is_old self.old.flight))
@@ -137,6 +139,7 @@ impl Flight {
         ensures dims { R.dims regs.new ≡ R.dims regs.old }
         ensures before { self.new.before ≡ self.old.before }
         ensures flight { self.new.flight ≡ [] }
+        ensures idle { self.old.flight ≡ [] → Stays (R.calls regs.old) (R.calls regs.new) }
         ensures drain { Told (λ contents now_contents. now_contents ≡ drain_of self.old now.now contents)
             (R.contents regs.old) (R.contents regs.new) }
         ensures makes { MakesOver (λ contents. drained (versions now.now self.old.before) contents self.old.flight)
@@ -155,6 +158,7 @@ impl Flight {
         ensures dims { R.dims regs.new ≡ R.dims regs.old }
         ensures before { self.new.before ≡ self.old.before }
         ensures flight { self.new.flight ≡ filter is_present self.old.flight }
+        ensures idle { filter is_old self.old.flight ≡ [] → Stays (R.calls regs.old) (R.calls regs.new) }
         ensures makes { MakesOver (λ contents. drained (versions now.now self.old.before) contents (filter is_old self.old.flight))
             (R.contents regs.old) (R.contents regs.new) (R.calls regs.old) (R.calls regs.new) }
     {

@@ -3,7 +3,7 @@ ghost use Rattle.pkt_headers.specs.declared.packets.Packet.{Packet};
 ghost use Rattle.pipe_flight.specs.Schedules.{KeepsSerialOrder};
 ghost use Rattle.pipe_flight.specs.Traces.{KeepsGroupOrder, KeepsPacketCalls};
 ghost use Rattle.pipe_flight.specs.Drains.{DrainsEntered, DrainsFilled};
-ghost use Rattle.pipe_flight.specs.Pipes.{PipesAreStaged, PipesAvoidUnnamed};
+ghost use Rattle.pipe_flight.specs.Pipes.{PipesAreRuns, PipesAreStaged, PipesAvoidUnnamed, PipesKeepGroupOrder};
 
 /// On each array the calls come in the order of the serial run, and once nobody is in flight they
 /// are those of the serial run, and so are the registers.
@@ -47,4 +47,17 @@ pub fn calls_by_group()
 #[tactic(auto, using(crate::proofs::PipeLemmas::unnamed_avoided))]
 pub fn calls_where_named()
     ensures { PipesAvoidUnnamed }
+{}
+
+/// A schedule over the rules of pipes of one shape, where no entry of the rules before a change
+/// names a register that it fills, is one of which these laws speak.
+pub fn pipe_runs()
+    ensures { PipesAreRuns }
+{}
+
+/// In it the registers of a group are those of the serial run without the packets that have not
+/// passed it.
+#[tactic(auto, using(crate::proofs::PipeRunLemmas::pipe_group_order))]
+pub fn pipe_group_order()
+    ensures { PipesKeepGroupOrder }
 {}

@@ -12,3 +12,6 @@ returns-clause-drain g c =
     (subst IsInOrder c.self.view_is c.self.invariant.in_order).old_first
     (c.keep.ensures.flight ∙ ap (map kept_now) c.pass_olds.ensures.flight)
     c.pass_olds.ensures.makes
+
+pub returns-clause-order : goal.returns-clause-order
+returns-clause-order g c = subst IsInOrder c.self.view_is c.self.invariant.in_order

@@ -7,7 +7,7 @@ use Rattle.pipe_flight.specs.States.{versions}
 use Rattle.pipe_flight.proofs.DrainLemmas.{drained_append}
 use Rattle.reg_file.specs.Calls.{MakesOver}
 use Rattle.pipe_flight.proofs.PassLemmas.{StillTo, still_then, still_last}
-use Rattle.pipe_flight.proofs.QueueLemmas.{old_head}
+use Rattle.pipe_flight.proofs.QueueLemmas.{old_among, old_head}
 use Rattle.pipe_flight.proofs.flights.Flight.pass_olds.Goals as goal
 
 pub olds-preserved : goal.olds-preserved
@@ -29,6 +29,7 @@ olds-preserved g c =
           (r.contents c.args.regs.now) (r.contents c.olds.regs) (r.contents c.pass_first.new.regs) (r.calls c.args.regs.now) (r.calls c.olds.regs) (r.calls c.pass_first.new.regs)
           (λ contents. ap (drained rules_now contents) head.olds ∙ drained_append rules_now contents (take 1 flight) (filter is_old (drop 1 flight)))
           c.olds.invariant.to_do makes);
+      idle = λ nobody. absurd (old_among flight (sym c.has_old.ensures.first ∙ c.olds-test.true) (c.olds.invariant.idle nobody).0);
     }
 
 pub returns-clause-flight : goal.returns-clause-flight
@@ -41,3 +42,6 @@ returns-clause-makes g c =
     (r.contents c.args.regs.now) (r.contents c.olds.regs) (r.calls c.args.regs.now) (r.calls c.olds.regs)
     (λ contents. ap (drained rules_now contents) (c.has_old.ensures.none c.olds-test.false).olds)
     c.olds.invariant.to_do
+
+pub returns-clause-idle : goal.returns-clause-idle
+returns-clause-idle g c = λ nobody. (c.olds.invariant.idle nobody).1

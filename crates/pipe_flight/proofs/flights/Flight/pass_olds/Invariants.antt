@@ -1,4 +1,5 @@
-use Rattle.std.proofs.Common.{◌≡◌, length, filter}
+use Rattle.std.proofs.Common.{◌≡◌, [], length, filter}
+use Rattle.outside.specs.Told.{Stays}
 use Rattle.pipe_flight.specs.Flights.{drained}
 use Rattle.pipe_flight.specs.Orders.{is_old, is_present}
 use Rattle.pipe_flight.specs.States.{versions}
@@ -12,6 +13,7 @@ invariant-olds g l = let r = g.R.RegFile in record {
   before : l.self.before ≡ l.fn.self.before;
   presents : filter is_present l.self.flight ≡ filter is_present l.fn.self.flight;
   to_do : StillTo (λ contents. drained (versions l.now l.fn.self.before) contents (filter is_old l.fn.self.flight)) (λ contents. drained (versions l.now l.fn.self.before) contents (filter is_old l.self.flight)) (r.contents l.fn.regs) (r.contents l.regs) (r.calls l.fn.regs) (r.calls l.regs);
+  idle : filter is_old l.fn.self.flight ≡ [] → (filter is_old l.self.flight ≡ []) × Stays (r.calls l.fn.regs) (r.calls l.regs);
 }
 
 abbrev pub decreases-olds : goal.decreases-olds

@@ -1,11 +1,11 @@
-use Rattle.std.proofs.Common.{List, drop, take, sym, ◌∙◌, subst, rules}
+use Rattle.std.proofs.Common.{List, drop, take, sym, ◌∙◌, subst, rules, vec_len, arith}
 use Rattle.pkt_headers.specs.declared.packets.Packet.{Packet}
 use Rattle.pipe_core.specs.Rules.{Rules}
 use Rattle.pipe_flight.specs.Flights.{Flying, drained}
 use Rattle.pipe_flight.specs.States.{versions}
 use Rattle.reg_file.specs.Calls.{MakesOver}
 use Rattle.pipe_flight.proofs.PassLemmas.{StillTo, still_then}
-use Rattle.pipe_flight.proofs.QueueLemmas.{first_apart}
+use Rattle.pipe_flight.proofs.QueueLemmas.{first_apart, somebody_waits}
 use Rattle.pipe_flight.proofs.flights.Flight.show.Goals as goal
 
 pub all-preserved : goal.all-preserved
@@ -24,4 +24,5 @@ all-preserved g c =
           (still_then (λ contents. drained rules_now contents c.args.self.now.flight) (λ contents. drained rules_now contents flight) (λ contents. drained rules_now contents (take 1 flight)) (λ contents. drained rules_now contents (drop 1 flight))
           (r.contents c.args.regs.now) (r.contents c.all.regs) (r.contents c.pass_first.new.regs) (r.calls c.args.regs.now) (r.calls c.all.regs) (r.calls c.pass_first.new.regs)
           (first_apart rules_now flight) c.all.invariant.to_do makes);
+      idle = λ nobody. absurd (somebody_waits c.self.inside.waiting.items c.self.inside.before c.all.self (vec_len c.self.inside.waiting) c.self.view_is (omega (arith, c.self.inside.waiting.ok.0)) (sym c.is_empty.ensures ∙ c.all-test.true) (c.all.invariant.idle nobody).0);
     }

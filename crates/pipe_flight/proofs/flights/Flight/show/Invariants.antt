@@ -1,4 +1,5 @@
-use Rattle.std.proofs.Common.{◌≡◌, length}
+use Rattle.std.proofs.Common.{◌≡◌, [], length}
+use Rattle.outside.specs.Told.{Stays}
 use Rattle.pipe_flight.specs.Flights.{drained}
 use Rattle.pipe_flight.specs.States.{versions}
 use Rattle.pipe_flight.proofs.PassLemmas.{StillTo}
@@ -10,6 +11,7 @@ invariant-all g l = let r = g.R.RegFile in record {
   dims : r.dims l.regs ≡ r.dims l.fn.regs;
   before : l.self.before ≡ l.fn.self.before;
   to_do : StillTo (λ contents. drained (versions l.now l.fn.self.before) contents l.fn.self.flight) (λ contents. drained (versions l.now l.fn.self.before) contents l.self.flight) (r.contents l.fn.regs) (r.contents l.regs) (r.calls l.fn.regs) (r.calls l.regs);
+  idle : l.fn.self.flight ≡ [] → (l.self.flight ≡ []) × Stays (r.calls l.fn.regs) (r.calls l.regs);
 }
 
 abbrev pub decreases-all : goal.decreases-all
