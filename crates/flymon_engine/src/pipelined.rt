@@ -67,8 +67,6 @@ impl Machine for Pipelined {
     }
 
     fn change<R: RegFile>(&mut self, regs: &mut R, change: &Change) -> Result<Line, DeviceFault> {
-        // For its clause on the order.
-        let _ = self.flight.vacant(0);
         self.flight.commit(pipe_of(&self.serial), regs);
         self.serial.edit(regs, change)
     }
