@@ -161,13 +161,3 @@ told_none before after answer a b is left r left' =
 pub told_fault : (before after : Reading) (fault : CaptureFault) (a b : Slot) → SlotMoves (GoesOn before (Err fault)) a b
     → (left : Left) → Told (λ old new. Comes before left old → Gives (Comes after) left (Err fault) new) a.cursor b.cursor
 told_fault before after fault a b r left = told_weaker a.cursor b.cursor (λ x y g. gives_fault before after fault left x y g.answers) r.cursor
-
--- behind a record or at the end the capture may be read on
-pub ready_on : (before after : Reading) (answer : Result (Option Record) CaptureFault) (found : Option Record) (slot : Slot)
-    → Ok found ≡ answer → before.faulty ≡ false → after ≡ moved before answer → IsAt (moved before answer) slot → IsReady after slot
-ready_on before after answer found slot is sound left at =
-    record { sound = ap (λ (r : Reading). r.faulty) left ∙ (ap (λ x. (moved before x).faulty) (sym is) ∙ by found); place = rw left at }
-  where
-    by : (found : Option Record) → (moved before (Ok found)).faulty ≡ false
-    by None = sound
-    by (Some item) = sound

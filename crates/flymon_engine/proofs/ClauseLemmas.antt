@@ -357,10 +357,6 @@ to_stray rules lays form before after (Err (Carrying halts.Input)) e promises = 
 to_stray rules lays form before after (Err (Carrying halts.Device)) e promises = absurd (let bad : statuses.DeviceFault ≡ statuses.InputFault = e in cc)
 to_stray rules lays form before after (Err (Carrying halts.Output)) e promises = absurd (let bad : statuses.OutputFault ≡ statuses.InputFault = e in cc)
 
--- what a promise says of its own status holds of the status that was answered
-pub by_status : (P : Status → Type 0) (status : Status) (ending : Result (Unit {0}) Stop) → status ≡ status_of ending → P (status_of ending) → P status
-by_status P status ending is holds = subst P (sym is) holds
-
 -- a demo leaves the handed-in files, and no file or text of it is at fault
 refused_demo : (seed count : ℕ) (refusal : Refusal) (before after : Seen) → IsRefused (Demo seed count) refusal before after
     → FilesStay before after × IsOfDemo (status_of_refusal refusal)

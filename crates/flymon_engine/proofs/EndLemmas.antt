@@ -86,17 +86,6 @@ cause_of_run Input f0 f1 f2 last r0 r1 r2 r3 o0 o1 f r e cause = (omega (arith, 
 cause_of_run Device f0 f1 f2 last r0 r1 r2 r3 o0 o1 f r e cause = omega arith
 cause_of_run Output f0 f1 f2 last r0 r1 r2 r3 o0 o1 f r e cause = cause
 
--- a file that stopped the run
-pub stops_reading : (profile script capture : List ℕ) (refusal : Refusal) (before after : Seen)
-    → StopsReading profile script capture refusal before after → StopsOpening profile script capture refusal before after
-stops_reading profile script capture refusals.Usage before after stops = stops
-stops_reading profile script capture (refusals.Profile fault) before after stops = stops
-stops_reading profile script capture (refusals.Script fault) before after stops = stops
-stops_reading profile script capture (refusals.Header fault) before after stops = stops
-stops_reading profile script capture (refusals.Input file) before after stops = stops
-stops_reading profile script capture refusals.Device before after stops = absurd stops.texts
-stops_reading profile script capture refusals.Memory before after stops = stops
-
 pub err_holds : {T : Type 0} (P : Halt → Type 0) (result : Result T Halt) (halt : Halt) → result ≡ Err halt → IfErr result P → P halt
 err_holds P result halt e h = let Q : Result _ Halt → Type 0 = λ r. IfErr r P in subst Q e h
 

@@ -12,7 +12,8 @@ use Rattle.flymon_engine.specs.Runs.{Run, passed, pass_first, taken_by, meets, s
 use Rattle.flymon_engine.specs.Stops.{Finished, Ends, Cuts, SpoilsTo}
 use Rattle.capture_read.specs.declared.records.CaptureFault.{CaptureFault}
 use Rattle.flymon_engine.proofs.StepLemmas.{change_unmet, ask_unmet}
-use Rattle.flymon_engine.specs.Going.{going, damage_met, IsFront, GoesTo, AgreesBy}
+use Rattle.flymon_engine.specs.Going.{going, damage_met, GoesTo, AgreesBy}
+use Rattle.outside.specs.Sent.{IsFront}
 
 -- a test that holds of all
 split : (b u : Bool) → (not b && u) ≡ true → (b ≡ false) × (u ≡ true)

@@ -51,10 +51,6 @@ pub same_shape : (machine : Pipelined) (dims : Dims) (pipe : pipes.Rules) → Fi
     → SameShape machine.flight.before pipe
 same_shape machine dims pipe fits of = record { geometry = fits.geometry ∙ sym of.geometry; hash_key = fits.hash_key ∙ sym of.hash_key }
 
-pub pipe_shaped : (machine : Pipelined) (dims : Dims) (pipe : pipes.Rules) → FitsPipelined machine dims → IsPipeOf pipe machine.serial.switch
-    → IsShaped pipe.geometry dims
-pipe_shaped machine dims pipe fits of = subst (λ g. IsShaped g dims) (sym of.geometry) fits.serial.shaped
-
 -- ---- boards that differ in the packets in flight alone
 
 pub serial_flying : (switch : SwitchState) (board : Board) (flying : List Aloft) (contents : Contents) → IsSerial switch board contents → IsSerial switch (with_flying board flying) contents

@@ -174,11 +174,6 @@ serial_passed board switch packet old new calls0 calls1 passes serial =
     calls_by : Geometry → List ℕ → List Call
     calls_by geometry key = calls_of geometry key packet board.records
 
--- a switch that stays
-pub serial_stayed : (board : Board) (switch : SwitchState) (cells : Contents) (calls0 calls1 : Option (List Call)) → Stays calls0 calls1
-    → IsSerial switch board cells → Moves (IsSerial switch) (serial_rules.finish board) calls0 calls1 cells
-serial_stayed board switch cells calls0 calls1 stays serial = record { stood = serial; made = grows_none calls0 calls1 stays }
-
 -- ---- a read-out
 
 -- the switch is what a switch keeps of the board

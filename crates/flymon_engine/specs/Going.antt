@@ -1,6 +1,7 @@
 -- What a whole script comes to, where nothing fails but the capture may be damaged.
 use Rattle.std.specs.Prelude.{◌≡◌, List, [], ◌∷◌, ◌++◌, if◌then◌else◌, Option, None, Some, Result, Ok, Err}
 use Rattle.flymon_engine.specs.declared.work.Work.{Work}
+use Rattle.outside.specs.Sent.{IsFront}
 use Rattle.capture_read.specs.declared.records.CaptureFault.{CaptureFault}
 use Rattle.flymon_engine.specs.declared.stop.Halt.{Halt}
 use Rattle.flymon_engine.specs.declared.stop.Halt.TheVariants.{Damage, Input, Device, Output}
@@ -16,10 +17,6 @@ going rules run (command ∷ commands) = if meets run command then passed rules 
 unfoldable pub damage_met : Rules → Run → List Work → Option CaptureFault
 damage_met rules run [] = None
 damage_met rules run (command ∷ commands) = if meets run command then run.left.fault else damage_met rules (step rules run command) commands
-
-pub record IsFront {A : Type 0} (front all : List A) : Type 0 where
-  pub rest : List A
-  pub whole : front ++ rest ≡ all
 
 pub record GoesTo (rules : Rules) (start : Run) (commands : List Work) (damage : Option CaptureFault) (end : Run) : Type 0 where
   pub damaged : damage_met rules start commands ≡ damage

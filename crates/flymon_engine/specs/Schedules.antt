@@ -14,7 +14,7 @@ use Rattle.sw_profile.specs.declared.profiles.Profile.{Profile}
 use Rattle.flymon_engine.specs.declared.work.Change as changes
 use Rattle.flymon_engine.specs.ChangeLines.{change_of}
 use Rattle.flymon_engine.specs.Boards.{Aloft, Board, Move, no_tasks}
-use Rattle.flymon_engine.specs.Going.{IsFront}
+use Rattle.outside.specs.Sent.{IsFront}
 use Rattle.flymon_engine.specs.Serial.{stayed, packet_move, change_move}
 use Rattle.flymon_engine.specs.Flight.{entered, advanced, settled, flight_change}
 

@@ -13,7 +13,8 @@ use Rattle.reg_file.specs.Calls.{all_made, is_on}
 use Rattle.pipe_core.specs.Flow.{Stages, flow}
 use Rattle.pipe_flight.specs.Flights.{Flying, Versions, entering, calls_next, moved_on, drained, drain, kept_now, committed}
 use Rattle.pipe_flight.specs.Orders.{NobodyAt, if_left, is_old, is_present, Falls, OldFirst, IsFlight}
-use Rattle.pipe_flight.specs.Schedules.{Fill, filled, Step, Moment, calls_of_group, passed_group, moment_after, Serial, serial_after, AreAt, AreStaged, Avoids, Meets, MeetAll, ran, ran_serial, IsFront}
+use Rattle.pipe_flight.specs.Schedules.{Fill, filled, Step, Moment, calls_of_group, passed_group, moment_after, Serial, serial_after, AreAt, AreStaged, Avoids, Meets, MeetAll, ran, ran_serial}
+use Rattle.outside.specs.Sent.{IsFront}
 use Rattle.pipe_flight.proofs.Agreements.{Stands, Agrees, Reaches}
 use Rattle.pipe_flight.specs.Schedules.Step.{Enter, Advance, Change, Show}
 use Rattle.pipe_flight.proofs.PlaceLemmas.{all_made_same, all_made_off}

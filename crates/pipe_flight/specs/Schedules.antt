@@ -2,6 +2,7 @@
 -- groups as it enters.
 use Rattle.std.specs.Prelude.{◌≡◌, ℕ, ◌+◌, ◌<◌, ◌==◌, Bool, false, if◌then◌else◌, List, [], ◌∷◌, ◌++◌, filter, map, fold}
 use Rattle.std.specs.List.{All}
+use Rattle.outside.specs.Sent.{IsFront}
 use Rattle.reg_file.specs.declared.traits.Call.{Call}
 use Rattle.reg_file.specs.Registers.{Contents}
 use Rattle.reg_file.specs.Calls.{all_made, is_on}
@@ -160,10 +161,6 @@ pub record IsRun {P : Type 0} (group_of : ℕ → ℕ) (run : Run P) : Type 0 wh
   pub some : 0 < run.count
   pub staged : AreStaged group_of run.now
   pub meets : MeetAll group_of run.none (first_moment run.count run.now run.contents) run.steps
-
-pub record IsFront {A : Type 0} (front all : List A) : Type 0 where
-  pub rest : List A
-  pub whole : front ++ rest ≡ all
 
 -- on each array the calls so far are a front of the serial ones; once nobody is in flight they are equal, and so are
 -- the registers
