@@ -1,8 +1,12 @@
 //! Calls on a switch whose device fails, and the same calls made again.
 ghost use Rattle.pipe_core.specs.Rules.{IsShaped};
+ghost use Rattle.readout.specs.PlacedTasks.{IsFit};
+ghost use Rattle.rule_txn.specs.Seen.{view_of};
 
+use fm_io::MemSink;
 use group_keys::GroupKeys;
 use hash_units::standard;
+use readout::{ReadFault, Readout, Side};
 use reg_file::{RegFile, TraceFile};
 use rule_txn::{AddFault, ResizeFault, StartFail, Switch};
 use sketch_defs::{Name, Task};
@@ -138,6 +142,54 @@ fn adds_and_resizes_again(rt: HostRuntime) -> Result<(), Fail> {
         );
         assert_eq!(rt; switch.count(), 1);
         expect_uses(&rt, alloc, &switch, failing, &RESIZED);
+        switch.close();
+    }
+    Ok(())
+}
+
+/// Tells the cells of a task; the registers keep their shape.
+fn read_from<R: RegFile>(
+    reader: &Readout,
+    switch: &Switch,
+    regs: &mut R,
+    name: &Name,
+    side: Side,
+    sink: &mut MemSink,
+) -> Result<(), ReadFault>
+    requires fit { IsFit (view_of switch.now) }
+    requires shaped { IsShaped switch.now.geometry (R.dims regs.old) }
+    ensures { IsShaped switch.now.geometry (R.dims regs.new) }
+{
+    reader.cells(switch, regs, name, side, sink)
+}
+
+#[test]
+fn reads_again(rt: HostRuntime) -> Result<(), Fail> {
+    let alloc = rt.alloc();
+    let task = four_rows(alloc)?;
+    let reader = Readout::new(alloc, 10)?;
+    // Call 1 shapes the registers, the next eight fill the rows of both sizes, and the tenth is the first read.
+    for (side, told) in [
+        (Side::Live, "read t rows 4 size 512 start 4294967295\nend\n"),
+        (
+            Side::Frozen,
+            "frozen t rows 4 size 256 start 4294967295\nend\n",
+        ),
+    ] {
+        let mut regs = TraceFile::new(alloc, 0, vec![in alloc; 10u64]?)?;
+        let mut sink = MemSink::new(alloc, 100, 100, Vec::new(alloc))?;
+        let Ok(mut switch) = Switch::start(alloc, default_profile().shape, standard(), &mut regs)
+        else {
+            return Err("a switch")?;
+        };
+        assert_eq!(rt; add_to(&mut switch, &mut regs, &task), Ok(()));
+        assert_eq!(rt; resize_in(&mut switch, &mut regs, task.name(), 512), Ok(()));
+        assert_eq!(rt; switch.shape().greatest_bits(), 10);
+        let refused = read_from(&reader, &switch, &mut regs, task.name(), side, &mut sink);
+        assert_eq!(rt; refused, Err(ReadFault::Device), "at {side:?}");
+        let read = read_from(&reader, &switch, &mut regs, task.name(), side, &mut sink);
+        assert_eq!(rt; read, Ok(()), "at {side:?}");
+        assert_eq!(rt; sink.sent(), told.as_bytes(), "at {side:?}");
         switch.close();
     }
     Ok(())
